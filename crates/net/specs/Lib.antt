@@ -1,1 +1,12 @@
+pub mod Figures
+pub mod Choose
 pub mod Refusal
+pub mod Net
+pub mod Tree
+pub mod Load
+pub mod Legal
+pub mod Judge
+pub mod Checked
+pub mod Ease
+pub mod Sound
+pub mod Sum

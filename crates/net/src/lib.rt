@@ -41,6 +41,12 @@ pub enum Refusal {
     NotEased(usize),
 }
 
+// What a judge says: nothing is wrong, or the first refusal.
+pub enum Judged {
+    Sound,
+    Refused(Refusal),
+}
+
 // Document 01's number of a refusal.
 pub fn number(r: Refusal) -> u32
     ensures { λ n. ⌜ n ≡ numberOf r ⌝ }

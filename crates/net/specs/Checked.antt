@@ -1,0 +1,66 @@
+-- Document 01, "Numbers given back": "The checker takes the net, then 7 for the placement, then 10, 11, 12."
+use Prim.Native.Nat.{ℕ, zero, suc, _+_, _-_}
+use mathlib.Core.Bool.{Bool, true, false}
+use mathlib.Core.List.{List, [], _∷_}
+use lib.ListN.{length}
+use lib.Dec.{eqb, ltb, leb}
+use Rattle.net.specs.declared.Entry.{Entry}
+use Rattle.net.specs.declared.Refusal.the-variants.{WrongColumns, Misplaced, Overloaded, WrongParity}
+use Rattle.net.specs.declared.Judged.{Judged}
+use Rattle.net.specs.declared.Judged.the-variants.{Sound, Refused}
+use Rattle.net.specs.Figures.{mostEntries}
+use Rattle.net.specs.Choose.{pick, both}
+use Rattle.net.specs.Net.{Net, places, wire, kind}
+use Rattle.net.specs.Load.{entries, offsetsOn, drivers}
+use Rattle.net.specs.Legal.{start, sense}
+use Rattle.net.specs.Judge.{unless, thenJudge, judged}
+
+-- 7: "placement columns unequal or over 4,096"
+abbrev pub placementFits : List ℕ → List ℕ → Bool
+placementFits vs os = both (eqb (length os) (length vs)) (leb (length vs) mostEntries)
+
+-- 10: "entry on no wire, past its wire, or out of order (lower than the one before it)"
+abbrev pub onItsWire : Net → Entry → Bool
+onItsWire n e = both (ltb 0 (e .wire)) (both (ltb (e .wire) (places n)) (leb (e .offset) (wire n (e .wire))))
+
+abbrev pub notLower : Entry → Entry → Bool
+notLower d e = pick (ltb (d .wire) (e .wire)) true (both (eqb (d .wire) (e .wire)) (leb (d .offset) (e .offset)))
+
+-- entry k and those after it, d the one before
+unfoldable pub placedFrom : Net → Entry → ℕ → List Entry → Judged
+placedFrom n d k [] = Sound
+placedFrom n d k (e ∷ es) = thenJudge (unless (both (onItsWire n e) (notLower d e)) (Misplaced k)) (placedFrom n e (suc k) es)
+
+-- 11: "driver over C_U", driver k and those after it
+unfoldable pub withinLimit : ℕ → ℕ → List ℕ → Judged
+withinLimit limit k [] = Sound
+withinLimit limit k (load ∷ loads) = thenJudge (unless (leb load limit) (Overloaded k)) (withinLimit limit (suc k) loads)
+
+-- the lowest-numbered sink among k nodes from i on
+unfoldable pub firstSink : Net → ℕ → ℕ → ℕ
+firstSink n zero i = i
+firstSink n (suc k) i = pick (eqb (kind n i) 1) i (firstSink n k (suc i))
+
+-- 12: "inverter count plus polarity is odd where the lowest-numbered sink's is even, or the reverse", among k nodes from i on
+unfoldable pub oneSenseFrom : Net → (ℕ → List ℕ) → ℕ → ℕ → ℕ → Judged
+oneSenseFrom n offs s zero i = Sound
+oneSenseFrom n offs s (suc k) i =
+    thenJudge (unless (pick (eqb (kind n i) 1) (eqb (sense n offs i) s) true) (WrongParity i))
+    (oneSenseFrom n offs s k (suc i))
+
+abbrev pub oneSense : Net → (ℕ → List ℕ) → Judged
+oneSense n offs = oneSenseFrom n offs (sense n offs (firstSink n (places n - 1) 1)) (places n - 1) 1
+
+-- a placement on a net that is sound
+unfoldable pub placementJudged : Net → List Entry → Judged
+placementJudged n p =
+    thenJudge (placedFrom n start 0 p)
+    (thenJudge (withinLimit (n .limits .limit) 0 (drivers n p))
+    (oneSense n (offsetsOn p)))
+
+-- the two columns of a placement, on a net that is sound
+abbrev pub columnsJudged : Net → List ℕ → List ℕ → Judged
+columnsJudged n vs os = thenJudge (unless (placementFits vs os) WrongColumns) (placementJudged n (entries vs os))
+
+unfoldable pub checked : Net → List ℕ → List ℕ → Judged
+checked n vs os = thenJudge (judged n) (columnsJudged n vs os)

@@ -1,0 +1,52 @@
+-- Document 01, the carry: "Eased means C_U no lower, C_b no higher, each wire and pin no higher, all else equal."
+use Prim.Native.Nat.{ℕ, zero, suc, _-_, _≤_, min}
+use mathlib.Core.Path.{_≡_}
+use mathlib.Core.List.{List, map}
+use mathlib.Core.Bool.{Bool}
+use lib.Dec.{eqb, leb}
+use Rattle.net.specs.declared.Entry.{Entry}
+use Rattle.net.specs.declared.Limits.{Limits}
+use Rattle.net.specs.declared.Node.{Node}
+use Rattle.net.specs.declared.Refusal.the-variants.{NotEased}
+use Rattle.net.specs.declared.Judged.{Judged}
+use Rattle.net.specs.declared.Judged.the-variants.{Sound}
+use Rattle.net.specs.Choose.{both}
+use Rattle.net.specs.Net.{Net, places, wire, node}
+use Rattle.net.specs.Net as columns
+use Rattle.net.specs.Judge.{unless, thenJudge}
+
+-- m eases n
+pub record Eases (n m : Net) : Type 0 where
+  pub limit : n .limits .limit ≤ m .limits .limit
+  pub pin : m .limits .pin ≤ n .limits .pin
+  pub repeater : m .limits .repeater ≡ n .limits .repeater
+  pub parents : m .parents ≡ n .parents
+  pub kinds : m .kinds ≡ n .kinds
+  pub polarities : m .polarities ≡ n .polarities
+  pub wires : (i : ℕ) → wire m i ≤ wire n i
+  pub pins : (i : ℕ) → columns.pin m i ≤ columns.pin n i
+
+-- "every offset [..] becomes the smaller of itself and the new wire"
+abbrev pub cut : Net → Entry → Entry
+cut m e = record { wire = e .wire; offset = min (e .offset) (wire m (e .wire)) }
+
+abbrev pub carried : Net → List Entry → List Entry
+carried m p = map (cut m) p
+
+-- 13: "second net does not ease the first", "lowest node that doesn't; 0 for limits or size"
+abbrev pub limitsEase : Limits → Limits → Bool
+limitsEase a b = both (leb (a .limit) (b .limit)) (both (leb (b .pin) (a .pin)) (eqb (b .repeater) (a .repeater)))
+
+abbrev pub nodeEases : Node → Node → Bool
+nodeEases a b =
+    both (eqb (b .parent) (a .parent)) (both (leb (b .wire) (a .wire)) (both (eqb (b .kind) (a .kind)) (both (leb (b .pin) (a .pin)) (eqb (b .polarity) (a .polarity)))))
+
+-- k nodes from i on
+unfoldable pub nodesEase : Net → Net → ℕ → ℕ → Judged
+nodesEase n m zero i = Sound
+nodesEase n m (suc k) i = thenJudge (unless (nodeEases (node n i) (node m i)) (NotEased i)) (nodesEase n m k (suc i))
+
+unfoldable pub easeJudged : Net → Net → Judged
+easeJudged n m =
+    thenJudge (unless (both (limitsEase (n .limits) (m .limits)) (eqb (places m) (places n))) (NotEased 0))
+    (nodesEase n m (places n - 1) 1)

@@ -1,0 +1,75 @@
+-- Document 01, "Legal placement": which placements are legal, and the least count. One statement for buffers and inverters.
+use Prim.Native.Nat.{ℕ, zero, suc, _+_, _*_, _%_, _≤_, _<_}
+use mathlib.Core.Path.{_≡_}
+use mathlib.Core.List.{List, [], _∷_}
+use lib.ListN.{length}
+use lib.Dec.{eqb}
+use Rattle.net.specs.Choose.{pick}
+use Rattle.net.specs.declared.Entry.{Entry}
+use Rattle.net.specs.Net.{Net, places, parent, wire, kind, polarity}
+use Rattle.net.specs.Load.{offsetsOn, drivers}
+
+-- each element of a list
+abbrev pub Each : (ℕ → Type 0) → List ℕ → Type 0
+Each P [] = Unit {0}
+Each P (x ∷ xs) = P x × Each P xs
+
+-- "Entries stand in order of wire number, then offset. Equal entries are allowed": e may come after d
+pub data After (d e : Entry) : Type 0 where
+  higher : d .wire < e .wire → After d e
+  further : d .wire ≡ e .wire → d .offset ≤ e .offset → After d e
+
+-- "An entry is a wire and an offset, the units of that wire below the buffer: 0 to the wire's size."
+pub record Stands (n : Net) (e : Entry) : Type 0 where
+  pub above : 1 ≤ e .wire
+  pub within : e .wire < places n
+  pub offset : e .offset ≤ wire n (e .wire)
+
+-- the entries of p stand, each after the one before it; d comes before the first
+abbrev pub InOrder : Net → Entry → List Entry → Type 0
+InOrder n d [] = Unit {0}
+InOrder n d (e ∷ es) = After d e × Stands n e × InOrder n e es
+
+-- before every entry that stands on a wire
+abbrev pub start : Entry
+start = record { wire = 0; offset = 0 }
+
+-- the entries on the way from the source to node i. k steps upward are enough where parents have lower numbers and i is at most k
+unfoldable pub onTheWay : Net → (ℕ → List ℕ) → ℕ → ℕ → ℕ
+onTheWay n offs zero i = 0
+onTheWay n offs (suc k) i = let higher = onTheWay n offs k (parent n i) in pick (eqb i 0) 0 (length (offs i) + higher)
+
+-- "the counts of inverters from source to sink": an entry of type 1 inverts, one of type 0 does not
+unfoldable pub inverters : Net → (ℕ → List ℕ) → ℕ → ℕ
+inverters n offs i = n .limits .repeater * onTheWay n offs i i
+
+pub record Sink (n : Net) (i : ℕ) : Type 0 where
+  pub node : 1 ≤ i
+  pub within : i < places n
+  pub sink : kind n i ≡ 1
+
+-- 0 or 1: the sense that the source would need for sink i to have its polarity
+abbrev pub sense : Net → (ℕ → List ℕ) → ℕ → ℕ
+sense n offs i = (inverters n offs i + polarity n i) % 2
+
+-- "the counts of inverters from source to sink have one parity for all plus sinks and the other for all minus sinks (the paper's condition b)"
+pub record OneSense (n : Net) (offs : ℕ → List ℕ) : Type 0 where
+  pub one : ℕ
+  pub same : (i : ℕ) → Sink n i → sense n offs i ≡ one
+
+-- "Legal means: every buffer drives at most C_U; what lies below the source is at most C_U; and for type 1 [..]"
+pub record Legal (n : Net) (p : List Entry) : Type 0 where
+  pub stands : InOrder n start p
+  pub loads : Each (λ load. load ≤ n .limits .limit) (drivers n p)
+  pub parity : OneSense n (offsetsOn p)
+
+-- k is the count of some legal placement and of none fewer
+pub record Least (n : Net) (k : ℕ) : Type 0 where
+  pub placement : List Entry
+  pub legal : Legal n placement
+  pub count : length placement ≡ k
+  pub fewest : (p : List Entry) → Legal n p → k ≤ length p
+
+-- "no legal placement"
+abbrev pub NoneLegal : Net → Type 0
+NoneLegal n = (p : List Entry) → Legal n p → ⊥
