@@ -1,2 +1,4 @@
 pub mod Hanging
 pub mod EachWireOnce
+pub mod Tests
+pub mod SoundSays
