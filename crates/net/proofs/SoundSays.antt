@@ -16,9 +16,10 @@ use Rattle.net.specs.declared.Refusal.the-variants.{OutOfRange, WrongPar
 use Rattle.net.specs.Figures.{mostLimit, mostWire, mostPin, mostNodes, mostPlaces, mostChildren}
 use Rattle.net.specs.Choose.{pick, both}
 use Rattle.net.specs.Net.{Net, places, parent, wire, kind, pin, polarity, node}
-use Rattle.net.specs.Judge.{unless, thenJudge, columnsFit, limitsInRange, sourceClear, endInRange, nodeInRange, children, parentFits, nodeJudged, nodesJudged, childedFrom, judged}
+use Rattle.net.specs.Judge.{unless, thenJudge, columnsFit, limitsInRange, sourceClear, endInRange, nodeInRange, children, parentFits, nodeJudged, nodesJudged, hasChild, childed, judged}
 use Rattle.net.specs.Sound.{SoundNet}
-use Rattle.net.proofs.Tests.{never, both-met, unless-met, then-met}
+use Rattle.net.proofs.Tests.{both-met, unless-met, then-met}
+use Rattle.net.proofs.Each.{each-met}
 
 -- ---- one node
 
@@ -74,32 +75,13 @@ module _ (n : Net) where
     pub range : InRange (n .limits) (node n i)
     pub fits : Fits i (parent n i) (kind n (parent n i)) (children n (i - 1) (parent n i))
 
-  node-sound : (i place : ℕ) → nodeJudged n i place ≡ Sound → NodeSound i
+  pub node-sound : (i place : ℕ) → nodeJudged n i place ≡ Sound → NodeSound i
   node-sound i place e =
       let (r, f) = then-met (unless (nodeInRange (n .limits) (node n i)) (OutOfRange place)) _ e in
       record {
         range = in-range (n .limits) (node n i) (unless-met _ (OutOfRange place) r);
         fits = parent-fits i (parent n i) (kind n (parent n i)) (children n (i - 1) (parent n i)) (unless-met _ (WrongParent place) f);
       }
-
-  -- k nodes from i on
-  pub nodes-sound : (k i : ℕ) → nodesJudged n k i ≡ Sound → (j : ℕ) → i ≤ j → j < i + k → NodeSound j
-  unfolding nodesJudged
-  nodes-sound zero i e j lo hi = absurd (omega arith)
-  nodes-sound (suc k) i e j lo hi =
-      let (here, rest) = then-met (nodeJudged n i i) (nodesJudged n k (suc i)) e in
-      elim (ℕ-discrete j i) [ yes q ↦ subst NodeSound (sym q) (node-sound i i here) | no q ↦ nodes-sound k (suc i) rest j (omega arith) (omega arith) ]
-
-  pub all-childed : (k i : ℕ) → childedFrom n k i ≡ Sound → (v : ℕ) → i ≤ v → v < i + k → kind n v ≡ 0 → 1 ≤ children n (places n - 1) v
-  unfolding childedFrom
-  all-childed zero i e v lo hi z = absurd (omega arith)
-  all-childed (suc k) i e v lo hi z =
-      let (here, rest) = then-met (unless (pick (eqb (kind n i) 0) (ltb 0 (children n (places n - 1) i)) true) (Childless i)) _ e in
-      let met : pick (eqb (kind n i) 0) (ltb 0 (children n (places n - 1) i)) true ≡ true = unless-met _ (Childless i) here in
-      elim (ℕ-discrete v i) [
-        | yes q ↦ rw q (ltb-true 0 (children n (places n - 1) i) (rw (eq-eqb (kind n i) 0 (rw q at z)) at met))
-        | no q ↦ all-childed k (suc i) rest v (omega arith) (omega arith) z
-      ]
 
   -- no ninth child so far, so at most eight
   few-children : (m : ℕ) → ((i : ℕ) → 1 ≤ i → i < m → NodeSound i) → (k v : ℕ) → k < m → children n k v ≤ mostChildren
@@ -113,6 +95,11 @@ module _ (n : Net) where
     | no q ↦ rw (ne-eqb (parent n (suc k)) v q) (omega (arith, few-children m h k v (omega arith)))
   ]
 
+has-child : (i k c : ℕ) → hasChild i k c ≡ Sound → k ≡ 0 → 1 ≤ c
+has-child i k c e z =
+    let met : pick (eqb k 0) (ltb 0 c) true ≡ true = unless-met _ (Childless i) e in
+    ltb-true 0 c (rw (eq-eqb k 0 z) at met)
+
 -- a column's value at every place: at node 0, at a later node, and past the end, where it is 0
 everywhere : (col : List ℕ) (m most : ℕ) → length col ≡ m → getD col 0 0 ≡ 0 → ((i : ℕ) → 1 ≤ i → i < m → getD col i 0 ≤ most) → (i : ℕ) → getD col i 0 ≤ most
 everywhere col m most long zero-at h zero = omega arith
@@ -122,7 +109,7 @@ everywhere col m most long zero-at h (suc i) = elim (decLt (suc i) m) [
 ]
 
 -- ---- the whole net
-module _ (n : Net) (fit : columnsFit n ≡ true) (limits : limitsInRange (n .limits) ≡ true) (clear : sourceClear n ≡ true) (nodes : nodesJudged n (places n - 1) 1 ≡ Sound) (childed : childedFrom n (places n) 0 ≡ Sound) where
+module _ (n : Net) (fit : columnsFit n ≡ true) (limits : limitsInRange (n .limits) ≡ true) (clear : sourceClear n ≡ true) (nodes : nodesJudged n ≡ Sound) (every : childed n ≡ Sound) where
   facts : SoundNet n
   facts =
       let (w, f₁) = both-met (eqb (length (n .wires)) (places n)) _ fit in
@@ -142,7 +129,7 @@ module _ (n : Net) (fit : columnsFit n ≡ true) (limits : limitsInRange (n .lim
       let long-k : length (n .kinds) ≡ places n = eqb-true _ _ k in
       let long-p : length (n .pins) ≡ places n = eqb-true _ _ p in
       let long-q : length (n .polarities) ≡ places n = eqb-true _ _ q in
-      let at : (i : ℕ) → 1 ≤ i → i < places n → NodeSound n i = λ i lo hi. nodes-sound n (places n - 1) 1 nodes i lo (omega arith) in
+      let at : (i : ℕ) → 1 ≤ i → i < places n → NodeSound n i = λ i lo hi. node-sound n i i (each-met (λ j. nodeJudged n j j) (places n - 1) 1 nodes i lo (omega arith)) in
       record {
         some = one;
         few = leb-true (places n) mostPlaces few;
@@ -162,7 +149,7 @@ module _ (n : Net) (fit : columnsFit n ≡ true) (limits : limitsInRange (n .lim
         lower = λ i lo hi. at i lo hi .fits .lower;
         no-sink = λ i lo hi. at i lo hi .fits .no-sink;
         narrow = λ v. few-children n (places n) at (places n - 1) v (omega arith);
-        childed = λ v hi z. all-childed n (places n) 0 childed v (omega arith) (omega arith) z;
+        childed = λ v hi z. has-child v (kind n v) (children n (places n - 1) v) (each-met (λ i. hasChild i (kind n i) (children n (places n - 1) i)) (places n) 0 every v (omega arith) (omega arith)) z;
       }
 
 pub sound-says : (n : Net) → judged n ≡ Sound → SoundNet n
@@ -171,5 +158,5 @@ sound-says n e =
     let (a, e₁) = then-met (unless (columnsFit n) WrongColumns) _ e in
     let (b, e₂) = then-met (unless (limitsInRange (n .limits)) (OutOfRange 0)) _ e₁ in
     let (c, e₃) = then-met (unless (sourceClear n) (OutOfRange 0)) _ e₂ in
-    let (d, f) = then-met (nodesJudged n (places n - 1) 1) (childedFrom n (places n) 0) e₃ in
+    let (d, f) = then-met (nodesJudged n) (childed n) e₃ in
     facts n (unless-met _ WrongColumns a) (unless-met _ (OutOfRange 0) b) (unless-met _ (OutOfRange 0) c) d f

@@ -13,7 +13,7 @@ use Rattle.net.specs.Choose.{pick, both}
 use Rattle.net.specs.Net.{Net, places, wire, kind}
 use Rattle.net.specs.Load.{entries, offsetsOn, drivers}
 use Rattle.net.specs.Legal.{start, sense}
-use Rattle.net.specs.Judge.{unless, thenJudge, judged}
+use Rattle.net.specs.Judge.{unless, thenJudge, judgeEach, judged}
 
 -- 7: "placement columns unequal or over 4,096"
 abbrev pub placementFits : List ℕ → List ℕ → Bool
@@ -41,15 +41,12 @@ unfoldable pub firstSink : Net → ℕ → ℕ → ℕ
 firstSink n zero i = i
 firstSink n (suc k) i = pick (eqb (kind n i) 1) i (firstSink n k (suc i))
 
--- 12: "inverter count plus polarity is odd where the lowest-numbered sink's is even, or the reverse", among k nodes from i on
-unfoldable pub oneSenseFrom : Net → (ℕ → List ℕ) → ℕ → ℕ → ℕ → Judged
-oneSenseFrom n offs s zero i = Sound
-oneSenseFrom n offs s (suc k) i =
-    thenJudge (unless (pick (eqb (kind n i) 1) (eqb (sense n offs i) s) true) (WrongParity i))
-    (oneSenseFrom n offs s k (suc i))
+-- 12: "inverter count plus polarity is odd where the lowest-numbered sink's is even, or the reverse": s is the lowest-numbered sink's
+abbrev pub hasSense : Net → (ℕ → List ℕ) → ℕ → ℕ → Judged
+hasSense n offs s i = unless (pick (eqb (kind n i) 1) (eqb (sense n offs i) s) true) (WrongParity i)
 
 abbrev pub oneSense : Net → (ℕ → List ℕ) → Judged
-oneSense n offs = oneSenseFrom n offs (sense n offs (firstSink n (places n - 1) 1)) (places n - 1) 1
+oneSense n offs = let s = sense n offs (firstSink n (places n - 1) 1) in judgeEach (hasSense n offs s) (places n - 1) 1
 
 -- a placement on a net that is sound
 unfoldable pub placementJudged : Net → List Entry → Judged

@@ -13,7 +13,7 @@ use Rattle.net.specs.declared.Judged.the-variants.{Sound}
 use Rattle.net.specs.Choose.{both}
 use Rattle.net.specs.Net.{Net, places, wire, node}
 use Rattle.net.specs.Net as columns
-use Rattle.net.specs.Judge.{unless, thenJudge}
+use Rattle.net.specs.Judge.{unless, thenJudge, judgeEach}
 
 -- m eases n
 pub record Eases (n m : Net) : Type 0 where
@@ -41,12 +41,10 @@ abbrev pub nodeEases : Node → Node → Bool
 nodeEases a b =
     both (eqb (b .parent) (a .parent)) (both (leb (b .wire) (a .wire)) (both (eqb (b .kind) (a .kind)) (both (leb (b .pin) (a .pin)) (eqb (b .polarity) (a .polarity)))))
 
--- k nodes from i on
-unfoldable pub nodesEase : Net → Net → ℕ → ℕ → Judged
-nodesEase n m zero i = Sound
-nodesEase n m (suc k) i = thenJudge (unless (nodeEases (node n i) (node m i)) (NotEased i)) (nodesEase n m k (suc i))
+abbrev pub nodesEase : Net → Net → Judged
+nodesEase n m = judgeEach (λ i. unless (nodeEases (node n i) (node m i)) (NotEased i)) (places n - 1) 1
 
 unfoldable pub easeJudged : Net → Net → Judged
 easeJudged n m =
     thenJudge (unless (both (limitsEase (n .limits) (m .limits)) (eqb (places m) (places n))) (NotEased 0))
-    (nodesEase n m (places n - 1) 1)
+    (nodesEase n m)

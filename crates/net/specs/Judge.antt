@@ -23,6 +23,11 @@ abbrev pub thenJudge : Judged → Judged → Judged
 thenJudge Sound next = next
 thenJudge (Refused r) next = Refused r
 
+-- f at k numbers from i on, up to the first refusal
+unfoldable pub judgeEach : (ℕ → Judged) → ℕ → ℕ → Judged
+judgeEach f zero i = Sound
+judgeEach f (suc k) i = thenJudge (f i) (judgeEach f k (suc i))
+
 -- 7: "net columns unequal, empty or over 1,025 places"
 abbrev pub columnsFit : Net → Bool
 columnsFit n =
@@ -60,28 +65,32 @@ children n (suc k) v = pick (eqb (parent n (suc k)) v) 1 0 + children n k v
 abbrev pub parentFits : ℕ → ℕ → ℕ → ℕ → Bool
 parentFits i p k c = both (leb i mostNodes) (both (ltb p i) (both (eqb k 0) (ltb c mostChildren)))
 
--- node i, 3 before 4, refused at a place
+-- node i under a parent of the kind k with c children before it: 3 before 4, refused at a place
+abbrev pub admitted : Limits → Node → ℕ → ℕ → ℕ → ℕ → Judged
+admitted l d i k c place = thenJudge (unless (nodeInRange l d) (OutOfRange place)) (unless (parentFits i (d .parent) k c) (WrongParent place))
+
 abbrev pub nodeJudged : Net → ℕ → ℕ → Judged
-nodeJudged n i place =
-    thenJudge (unless (nodeInRange (n .limits) (node n i)) (OutOfRange place))
-    (unless (parentFits i (parent n i) (kind n (parent n i)) (children n (i - 1) (parent n i))) (WrongParent place))
+nodeJudged n i place = admitted (n .limits) (node n i) i (kind n (parent n i)) (children n (i - 1) (parent n i)) place
 
--- k nodes from i on
-unfoldable pub nodesJudged : Net → ℕ → ℕ → Judged
-nodesJudged n zero i = Sound
-nodesJudged n (suc k) i = thenJudge (nodeJudged n i i) (nodesJudged n k (suc i))
+-- nodes 1 to n
+abbrev pub nodesJudged : Net → Judged
+nodesJudged n = judgeEach (λ i. nodeJudged n i i) (places n - 1) 1
 
--- 5: "childless branch point or source", the lowest of k nodes from i on
-unfoldable pub childedFrom : Net → ℕ → ℕ → Judged
-childedFrom n zero i = Sound
-childedFrom n (suc k) i =
-    thenJudge (unless (pick (eqb (kind n i) 0) (ltb 0 (children n (places n - 1) i)) true) (Childless i))
-    (childedFrom n k (suc i))
+-- 5: "childless branch point or source", by the kind of node i and the number of its children
+abbrev pub hasChild : ℕ → ℕ → ℕ → Judged
+hasChild i k c = unless (pick (eqb k 0) (ltb 0 c) true) (Childless i)
+
+-- nodes 0 to m - 1
+abbrev pub childedBy : (ℕ → ℕ) → (ℕ → ℕ) → ℕ → Judged
+childedBy kinds counts m = judgeEach (λ i. hasChild i (kinds i) (counts i)) m 0
+
+abbrev pub childed : Net → Judged
+childed n = childedBy (kind n) (children n (places n - 1)) (places n)
 
 unfoldable pub judged : Net → Judged
 judged n =
     thenJudge (unless (columnsFit n) WrongColumns)
     (thenJudge (unless (limitsInRange (n .limits)) (OutOfRange 0))
     (thenJudge (unless (sourceClear n) (OutOfRange 0))
-    (thenJudge (nodesJudged n (places n - 1) 1)
-    (childedFrom n (places n) 0))))
+    (thenJudge (nodesJudged n)
+    (childed n))))

@@ -10,3 +10,4 @@ pub mod Checked
 pub mod Ease
 pub mod Sound
 pub mod Sum
+pub mod Counted

@@ -1,6 +1,14 @@
 // What a net is, and the judge of its columns: the call that every other call makes first.
 ghost use mathlib.Core.Path.{_≡_};
+ghost use Prim.Native.Nat.{ℕ, suc, _+_, _-_, _<_, _≤_};
+ghost use mathlib.Core.List.{List};
+ghost use lib.ListN.{length, getD, set};
+ghost use lib.Dec.{eqb, ltb, leb};
 ghost use Rattle.net.specs.Refusal.{numberOf, placeOf};
+ghost use Rattle.net.specs.Choose.{both};
+ghost use Rattle.net.specs.Net.{netAt, node};
+ghost use Rattle.net.specs.Judge.{limitsInRange, sourceClear, endInRange, nodeInRange, admitted, hasChild, childedBy, judged};
+ghost use Rattle.net.specs.Counted.{unlimited, sameLengths, Within, Level, Tallied, NodesJudged};
 
 // The limits of a net: C_U, C_b, and 0 for a buffer or 1 for an inverter.
 pub struct Limits {
@@ -87,4 +95,206 @@ pub fn place(r: Refusal) -> u64
         Refusal::WrongParity(p) => p as u64,
         Refusal::NotEased(p) => p as u64,
     }
+}
+
+// Both tests. Its value is the definitions' own `both`, so a judge made of it needs no proof by cases.
+pub fn and(a: bool, b: bool) -> bool
+    ensures { λ r. ⌜ r ≡ both a b ⌝ }
+{
+    if a { b } else { false }
+}
+
+// 7: the columns are equal, not empty, and at most 1,025 long.
+fn columns_fit(parent: usize, wire: usize, kind: usize, pin: usize, polarity: usize) -> bool
+    ensures { λ r. ⌜ r ≡ sameLengths parent wire kind pin polarity ⌝ }
+{
+    let some = and(0 < parent, parent <= 1025);
+    and(
+        wire == parent,
+        and(
+            kind == parent,
+            and(pin == parent, and(polarity == parent, some)),
+        ),
+    )
+}
+
+// The limits are in their ranges. The pin is doubled in 64 bits: it has no upper end of its own.
+pub fn limits_in_range(l: Limits) -> bool
+    ensures { λ r. ⌜ r ≡ limitsInRange l ⌝ }
+{
+    let limit = l.limit as u64;
+    let twice = 2 * (l.pin as u64);
+    and(
+        0 < limit,
+        and(limit <= 1000000, and(twice < limit, l.repeater <= 1)),
+    )
+}
+
+// Node 0's five places hold 0.
+fn source_clear(parent: &[u16], wire: &[u32], kind: &[u8], pin: &[u32], polarity: &[u8]) -> bool
+    requires { ⌜ Within 0 (now parent) (now wire) (now kind) (now pin) (now polarity) ⌝ }
+    ensures { λ r. ⌜ r ≡ sourceClear (netAt unlimited (parent .entry) (wire .entry) (kind .entry) (pin .entry) (polarity .entry)) ⌝ }
+{
+    let ends = and(kind[0] == 0, and(pin[0] == 0, polarity[0] == 0));
+    and(parent[0] == 0, and(wire[0] == 0, ends))
+}
+
+// A node's values are in their ranges.
+fn node_in_range(l: Limits, d: Node) -> bool
+    ensures { λ r. ⌜ r ≡ nodeInRange l d ⌝ }
+{
+    and(d.wire <= 10000000, end_in_range(l, d))
+}
+
+fn end_in_range(l: Limits, d: Node) -> bool
+    ensures { λ r. ⌜ r ≡ endInRange l d ⌝ }
+{
+    if d.kind == 1 {
+        return and(d.pin <= 1000000, d.polarity <= l.repeater);
+    }
+    and(d.kind == 0, and(d.pin == 0, d.polarity == 0))
+}
+
+// Node i, over the kinds of the nodes before it and the children that each has so far: 3 before 4. A refusal is at `place`.
+pub fn admit(
+    l: Limits,
+    d: Node,
+    i: usize,
+    kinds: &[u8],
+    counts: &[u8; 1025],
+    place: usize,
+) -> Judged
+    requires { ⌜ (i ≤ length (now kinds)) × (length (now counts) ≡ 1025) ⌝ }
+    ensures { λ r. ⌜ r ≡ admitted l d i (getD (now (kinds .entry)) (d .parent) 0) (getD (now (counts .entry)) (d .parent) 0) place ⌝ }
+{
+    if !node_in_range(l, d) {
+        return Judged::Refused(Refusal::OutOfRange(place));
+    }
+    if 1024 < i {
+        return Judged::Refused(Refusal::WrongParent(place));
+    }
+    let p = d.parent as usize;
+    if i <= p {
+        return Judged::Refused(Refusal::WrongParent(place));
+    }
+    if kinds[p] != 0 {
+        return Judged::Refused(Refusal::WrongParent(place));
+    }
+    if 8 <= counts[p] {
+        return Judged::Refused(Refusal::WrongParent(place));
+    }
+    Judged::Sound
+}
+
+// One child more of node p.
+pub fn tally(counts: &mut [u8; 1025], p: usize)
+    requires { ⌜ (length (now counts) ≡ 1025) × (p < 1025) × (getD (now counts) p 0 < 8) ⌝ }
+    ensures { λ r. ⌜ now (counts .exit) ≡ set (now (counts .entry)) p (getD (now (counts .entry)) p 0 + 1) ⌝ }
+{
+    counts[p] = counts[p] + 1;
+}
+
+// Node i of the kind k with c children: a branch point or the source needs one.
+fn has_child(i: usize, k: u8, c: u8) -> Judged
+    ensures { λ r. ⌜ r ≡ hasChild i k c ⌝ }
+{
+    if k != 0 {
+        return Judged::Sound;
+    }
+    if c == 0 {
+        return Judged::Refused(Refusal::Childless(i));
+    }
+    Judged::Sound
+}
+
+// The nodes 0 to n - 1: the lowest childless one is refused.
+pub fn all_childed(kinds: &[u8], counts: &[u8; 1025], n: usize) -> Judged
+    requires { ⌜ (n ≤ length (now kinds)) × (length (now counts) ≡ 1025) × (n ≤ 1025) ⌝ }
+    ensures { λ r. ⌜ r ≡ childedBy (λ j. getD (now (kinds .entry)) j 0) (λ j. getD (now (counts .entry)) j 0) n ⌝ }
+{
+    let mut i: usize = 0;
+    while i < n {
+        let here = has_child(i, kinds[i], counts[i]);
+        if let Judged::Refused(_) = here {
+            return here;
+        }
+        i += 1;
+    }
+    Judged::Sound
+}
+
+// Node i of the columns.
+pub fn node_at(
+    parent: &[u16],
+    wire: &[u32],
+    kind: &[u8],
+    pin: &[u32],
+    polarity: &[u8],
+    i: usize,
+) -> Node
+    requires { ⌜ Within i (now parent) (now wire) (now kind) (now pin) (now polarity) ⌝ }
+    ensures { λ r. ⌜ r ≡ node (netAt unlimited (parent .entry) (wire .entry) (kind .entry) (pin .entry) (polarity .entry)) i ⌝ }
+{
+    Node {
+        parent: parent[i],
+        wire: wire[i],
+        kind: kind[i],
+        pin: pin[i],
+        polarity: polarity[i],
+    }
+}
+
+// The nodes from 1 up, each admitted over those before it. Where all are, `counts` holds the children of each.
+fn judge_nodes(
+    l: Limits,
+    parent: &[u16],
+    wire: &[u32],
+    kind: &[u8],
+    pin: &[u32],
+    polarity: &[u8],
+    counts: &mut [u8; 1025],
+) -> Judged
+    requires { ⌜ Level (netAt l parent wire kind pin polarity) × Tallied (netAt l parent wire kind pin polarity) (now counts) 1 ⌝ }
+    ensures { λ r. ⌜ NodesJudged (netAt l (parent .entry) (wire .entry) (kind .entry) (pin .entry) (polarity .entry)) (now (counts .exit)) r ⌝ }
+{
+    let mut i: usize = 1;
+    while i < parent.len() {
+        let d = node_at(parent, wire, kind, pin, polarity, i);
+        let here = admit(l, d, i, kind, counts, i);
+        if let Judged::Refused(_) = here {
+            return here;
+        }
+        tally(counts, d.parent as usize);
+        i += 1;
+    }
+    Judged::Sound
+}
+
+// A net's columns: the first refusal in document 01's order, or that they are sound.
+pub fn judge(
+    l: Limits,
+    parent: &[u16],
+    wire: &[u32],
+    kind: &[u8],
+    pin: &[u32],
+    polarity: &[u8],
+) -> Judged
+    ensures { λ r. ⌜ r ≡ judged (netAt l (parent .entry) (wire .entry) (kind .entry) (pin .entry) (polarity .entry)) ⌝ }
+{
+    let n = parent.len();
+    if !columns_fit(n, wire.len(), kind.len(), pin.len(), polarity.len()) {
+        return Judged::Refused(Refusal::WrongColumns);
+    }
+    if !limits_in_range(l) {
+        return Judged::Refused(Refusal::OutOfRange(0));
+    }
+    if !source_clear(parent, wire, kind, pin, polarity) {
+        return Judged::Refused(Refusal::OutOfRange(0));
+    }
+    let mut counts = [0u8; 1025];
+    let nodes = judge_nodes(l, parent, wire, kind, pin, polarity, &mut counts);
+    if let Judged::Refused(_) = nodes {
+        return nodes;
+    }
+    all_childed(kind, &counts, n)
 }

@@ -1,0 +1,57 @@
+-- A judgement at each of some numbers in a row: what its end says of each, and how a loop goes through it.
+use Prim.Native.Nat.{ℕ, zero, suc, _+_, _-_, _≤_, _<_}
+use mathlib.Core.Path.{_≡_, refl, sym, ap, _∙_}
+use native.Mathlib.Omega.{arith}
+use native.Mathlib.Decide.{ℕ-discrete}
+use native.Mathlib.Numerals.{add-one}
+use Rattle.net.specs.declared.Refusal.{Refusal}
+use Rattle.net.specs.declared.Judged.{Judged}
+use Rattle.net.specs.declared.Judged.the-variants.{Sound, Refused}
+use Rattle.net.specs.Judge.{thenJudge, judgeEach}
+use Rattle.net.proofs.Tests.{then-met}
+
+-- where it ends in Sound each of them does
+pub each-met : (f : ℕ → Judged) (k i : ℕ) → judgeEach f k i ≡ Sound → (j : ℕ) → i ≤ j → j < i + k → f j ≡ Sound
+unfolding judgeEach
+each-met f zero i e j lo hi = absurd (omega arith)
+each-met f (suc k) i e j lo hi =
+    let (here, rest) = then-met (f i) (judgeEach f k (suc i)) e in
+    elim (ℕ-discrete j i) [ yes q ↦ rw q here | no q ↦ each-met f k (suc i) rest j (omega arith) (omega arith) ]
+
+-- and the other way round
+pub each-sound : (f : ℕ → Judged) (k i : ℕ) → ((j : ℕ) → i ≤ j → j < i + k → f j ≡ Sound) → judgeEach f k i ≡ Sound
+unfolding judgeEach
+each-sound f zero i h = refl
+each-sound f (suc k) i h = rw (h i (omega arith) (omega arith)) (each-sound f k (suc i) (λ j lo hi. h j (omega arith) (omega arith)))
+
+-- and it goes by the values of f at these numbers alone
+pub each-same : (f g : ℕ → Judged) (k i : ℕ) → ((j : ℕ) → i ≤ j → j < i + k → f j ≡ g j) → judgeEach f k i ≡ judgeEach g k i
+unfolding judgeEach
+each-same f g zero i h = refl
+each-same f g (suc k) i h = rw (h i (omega arith) (omega arith), each-same f g k (suc i) (λ j lo hi. h j (omega arith) (omega arith)))
+
+-- ---- a loop that has come to i: what is left decides the answer
+pub record Going (f : ℕ → Judged) (k a i : ℕ) : Type 0 where
+  pub low : a ≤ i
+  pub high : i ≤ a + k
+  pub rest : judgeEach f k a ≡ judgeEach f (a + k - i) i
+
+pub going-start : (f : ℕ → Judged) (k a : ℕ) → Going f k a a
+going-start f k a = record { low = omega arith; high = omega arith; rest = ap (λ (x : ℕ). judgeEach f x a) (omega arith) }
+
+step : (f : ℕ → Judged) (m i : ℕ) → i < m → judgeEach f (m - i) i ≡ thenJudge (f i) (judgeEach f (m - suc i) (suc i))
+unfolding judgeEach
+step f m i h = let e : m - i ≡ suc (m - suc i) = omega arith in rw e
+
+module _ {f : ℕ → Judged} {k a i : ℕ} (g : Going f k a i) where
+  pub going-stop : i < a + k → (r : Judged) (x : Refusal) → r ≡ Refused x → r ≡ f i → r ≡ judgeEach f k a
+  going-stop h r x refused here = sym (g .rest ∙ step f (a + k) i h ∙ rw (← here, refused))
+
+  pub going-next : i < a + k → Sound ≡ f i → Going f k a (i + 1)
+  going-next h here =
+      let e : a + k - suc i ≡ a + k - (i + 1) = omega arith in
+      record { low = omega (arith, g .low); high = omega arith; rest = g .rest ∙ step f (a + k) i h ∙ rw (← here, add-one) }
+
+  pub going-end : a + k ≤ i → Sound ≡ judgeEach f k a
+  unfolding judgeEach
+  going-end h = sym (g .rest ∙ (let e : a + k - i ≡ 0 = omega arith in rw e))
