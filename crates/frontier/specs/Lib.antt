@@ -1,0 +1,4 @@
+pub mod Cell
+pub mod Plan
+pub mod Frontier
+pub mod Placed
