@@ -1,0 +1,4 @@
+pub mod Lower
+pub mod Attained
+pub mod Best
+pub mod Offsets
