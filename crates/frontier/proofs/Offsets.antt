@@ -1,87 +1,69 @@
--- Where the wires of a tree have different numbers every plan is one of offsets by wire number, so the theorem holds of those too.
+-- Where no wire of a tree has the number of another, every plan is one of offsets by wire number, so the theorem holds of those too.
 use Prim.Native.Nat.{ℕ, zero, suc, _+_, _-_, _≤_, _<_}
 use mathlib.Core.Path.{_≡_, refl, sym, subst, _∙_}
-use mathlib.Core.Logic.{_⊎_, inl, inr}
 use mathlib.Core.List.{List, [], _∷_, _++_, append-nil}
 use lib.ListN.{length}
+use lib.Dec.{eqb}
 use native.Mathlib.Omega.{arith}
+use native.Mathlib.Decide.{ℕ-discrete}
+use borrow.Author.Tests.{eq-eqb, ne-eqb}
+use Rattle.net.specs.Choose.{pick}
 use Rattle.net.specs.Tree.{Hanging, none, sink, branch}
+use Rattle.net.specs.Sum.{sumOver}
 use Rattle.frontier.specs.Cell.{Cell}
-use Rattle.frontier.specs.Plan.{Plan, planOf, count, load, Good, Par, Settled}
-use Rattle.frontier.specs.Frontier.{State, lost, has, node, root}
-use Rattle.frontier.proofs.Best.{Covers, Best, lower-bound, optimal}
-
-abbrev pub Mem : Hanging → ℕ → Type 0
-Mem none j = ⊥
-Mem (sink i w c s r) j = (i ≡ j) ⊎ Mem r j
-Mem (branch i w f r) j = (i ≡ j) ⊎ (Mem f j ⊎ Mem r j)
+use Rattle.frontier.specs.Plan.{Plan, planOf, count, Settled}
+use Rattle.frontier.specs.Frontier.{State, lost, has, root}
+use Rattle.frontier.proofs.Counting.{hit, hit-same, hit-other}
+use Rattle.frontier.proofs.Best.{Best, optimal}
 
 abbrev pub Distinct : Hanging → Type 0
-Distinct none = Unit {0}
-Distinct (sink i w c s r) = (Mem r i → ⊥) × Distinct r
-Distinct (branch i w f r) = (Mem f i → ⊥) × (Mem r i → ⊥) × ((j : ℕ) → Mem f j → Mem r j → ⊥) × Distinct f × Distinct r
+Distinct f = (j : ℕ) → sumOver (hit j) f ≤ 1
 
--- ---- a plan as such a function
-abbrev only : ℕ → List ℕ → List ℕ
-only zero os = os
-only (suc n) os = []
-
-abbrev lookup : (f : Hanging) → Plan f → ℕ → List ℕ
+-- the offsets that a plan gives wire j
+unfoldable lookup : (f : Hanging) → Plan f → ℕ → List ℕ
 lookup none pl j = []
-lookup (sink i w c s r) pl j = only ((i - j) + (j - i)) (pl .0) ++ lookup r (pl .1) j
-lookup (branch i w f r) pl j = only ((i - j) + (j - i)) (pl .0) ++ (lookup f (pl .1) j ++ lookup r (pl .2) j)
+lookup (sink i w c s r) pl j = pick (eqb i j) (pl .0) (lookup r (pl .1) j)
+lookup (branch i w f r) pl j = pick (eqb i j) (pl .0) (lookup f (pl .1) j ++ lookup r (pl .2) j)
 
-only-ne : (i j : ℕ) (os : List ℕ) → (i ≡ j → ⊥) → only ((i - j) + (j - i)) os ≡ []
-only-ne i j os h = go ((i - j) + (j - i)) refl
-  where
-    go : (z : ℕ) → (i - j) + (j - i) ≡ z → only z os ≡ []
-    go zero e = absurd (h (omega arith))
-    go (suc z) e = refl
+missed : (i j x : ℕ) → hit j i + x ≤ 0 → i ≡ j → ⊥
+missed i j x h e = omega (arith, hit-same j i e)
 
-only-eq : (i : ℕ) (os : List ℕ) → only ((i - i) + (i - i)) os ≡ os
-only-eq i os = go ((i - i) + (i - i)) refl
-  where
-    go : (z : ℕ) → (i - i) + (i - i) ≡ z → only z os ≡ os
-    go zero e = refl
-    go (suc z) e = absurd (omega arith)
-
-lookup-off : (f : Hanging) (pl : Plan f) (j : ℕ) → (Mem f j → ⊥) → lookup f pl j ≡ []
+lookup-off : (f : Hanging) (pl : Plan f) (j : ℕ) → sumOver (hit j) f ≤ 0 → lookup f pl j ≡ []
+unfolding lookup sumOver
 lookup-off none pl j h = refl
-lookup-off (sink i w c s r) pl j h = rw (only-ne i j (pl .0) (λ e. h (inl e))) (lookup-off r (pl .1) j (λ m. h (inr m)))
+lookup-off (sink i w c s r) pl j h = rw (ne-eqb i j (missed i j (sumOver (hit j) r) h)) (lookup-off r (pl .1) j (omega arith))
 lookup-off (branch i w f r) pl j h =
-    rw (only-ne i j (pl .0) (λ e. h (inl e)), lookup-off f (pl .1) j (λ m. h (inr (inl m)))) (lookup-off r (pl .2) j (λ m. h (inr (inr m))))
+    rw (ne-eqb i j (missed i j (sumOver (hit j) f + sumOver (hit j) r) h), lookup-off f (pl .1) j (omega arith)) (lookup-off r (pl .2) j (omega arith))
 
-plan-ext : (o o′ : ℕ → List ℕ) (f : Hanging) → ((j : ℕ) → Mem f j → o j ≡ o′ j) → planOf o f ≡ planOf o′ f
+-- two plans are one where their offsets agree on the tree's wires
+pub plan-ext : (o o′ : ℕ → List ℕ) (f : Hanging) → ((j : ℕ) → 1 ≤ sumOver (hit j) f → o j ≡ o′ j) → planOf o f ≡ planOf o′ f
+unfolding sumOver
 plan-ext o o′ none h = refl
-plan-ext o o′ (sink i w c s r) h = cc (h i (inl refl), plan-ext o o′ r (λ j m. h j (inr m)))
-plan-ext o o′ (branch i w f r) h = cc (h i (inl refl), plan-ext o o′ f (λ j m. h j (inr (inl m))), plan-ext o o′ r (λ j m. h j (inr (inr m))))
+plan-ext o o′ (sink i w c s r) h = cc (h i (omega (arith, hit-same i i refl)), plan-ext o o′ r (λ j m. h j (omega arith)))
+plan-ext o o′ (branch i w f r) h = cc (h i (omega (arith, hit-same i i refl)), plan-ext o o′ f (λ j m. h j (omega arith)), plan-ext o o′ r (λ j m. h j (omega arith)))
+
+apart : (i j x : ℕ) → hit j i + x ≤ 1 → 1 ≤ x → i ≡ j → ⊥
+apart i j x h g e = omega (arith, hit-same j i e)
 
 lookup-plan : (f : Hanging) (pl : Plan f) → Distinct f → planOf (lookup f pl) f ≡ pl
+unfolding lookup sumOver
 lookup-plan none pl d = refl
-lookup-plan (sink i w c s r) pl d = let q : planOf (lookup (sink i w c s r) pl) r ≡ pl .1 = rest ∙ lookup-plan r (pl .1) (d .1) in λ ι. (here ι, q ι)
-  where
-    here : lookup (sink i w c s r) pl i ≡ pl .0
-    here = rw (only-eq i (pl .0), lookup-off r (pl .1) i (d .0)) (append-nil (pl .0))
-
-    rest : planOf (lookup (sink i w c s r) pl) r ≡ planOf (lookup r (pl .1)) r
-    rest = plan-ext (lookup (sink i w c s r) pl) (lookup r (pl .1)) r (λ j m. rw (only-ne i j (pl .0) (λ e. d .0 (subst (Mem r) (sym e) m))))
+lookup-plan (sink i w c s r) pl d =
+    let here : lookup (sink i w c s r) pl i ≡ pl .0 = rw (eq-eqb i i refl) in
+    let rest : planOf (lookup (sink i w c s r) pl) r ≡ pl .1 = plan-ext _ _ r (λ j m. rw (ne-eqb i j (apart i j (sumOver (hit j) r) (d j) m)))
+    ∙ lookup-plan r (pl .1) (λ j. omega (arith, d j)) in
+    λ ι. (here ι, rest ι)
 lookup-plan (branch i w f r) pl d =
-    let p : planOf (lookup (branch i w f r) pl) f ≡ pl .1 = left ∙ lookup-plan f (pl .1) (d .3) in
-    let q : planOf (lookup (branch i w f r) pl) r ≡ pl .2 = rest ∙ lookup-plan r (pl .2) (d .4) in
-    λ ι. (here ι, p ι, q ι)
-  where
-    here : lookup (branch i w f r) pl i ≡ pl .0
-    here = rw (only-eq i (pl .0), lookup-off f (pl .1) i (d .0), lookup-off r (pl .2) i (d .1)) (append-nil (pl .0))
+    let here : lookup (branch i w f r) pl i ≡ pl .0 = rw (eq-eqb i i refl) in
+    let below : planOf (lookup (branch i w f r) pl) f ≡ pl .1 = plan-ext _ _ f
+    (λ j m. rw (ne-eqb i j (apart i j (sumOver (hit j) f + sumOver (hit j) r) (d j) (omega arith)), lookup-off r (pl .2) j (omega (arith, d j))) (append-nil (lookup f (pl .1) j)))
+    ∙ lookup-plan f (pl .1) (λ j. omega (arith, d j)) in
+    let rest : planOf (lookup (branch i w f r) pl) r ≡ pl .2 = plan-ext _ _ r
+    (λ j m. rw (ne-eqb i j (apart i j (sumOver (hit j) f + sumOver (hit j) r) (d j) (omega arith)), lookup-off f (pl .1) j (omega (arith, d j))))
+    ∙ lookup-plan r (pl .2) (λ j. omega (arith, d j)) in
+    λ ι. (here ι, below ι, rest ι)
 
-    left : planOf (lookup (branch i w f r) pl) f ≡ planOf (lookup f (pl .1)) f
-    left = plan-ext (lookup (branch i w f r) pl) (lookup f (pl .1)) f
-        (λ j m. rw (only-ne i j (pl .0) (λ e. d .0 (subst (Mem f) (sym e) m)), lookup-off r (pl .2) j (d .2 j m)) (append-nil (lookup f (pl .1) j)))
-
-    rest : planOf (lookup (branch i w f r) pl) r ≡ planOf (lookup r (pl .2)) r
-    rest = plan-ext (lookup (branch i w f r) pl) (lookup r (pl .2)) r
-        (λ j m. rw (only-ne i j (pl .0) (λ e. d .1 (subst (Mem r) (sym e) m)), lookup-off f (pl .1) j (λ m′. d .2 j m′ m)))
-
--- n is the least count of a legal placement
+-- n is the least count of legal offsets
 pub record BestOffs (τ : Cell) (f : Hanging) (n : ℕ) : Type 0 where
   pub p : ℕ
   pub offs : ℕ → List ℕ
@@ -100,7 +82,3 @@ optimal-offs τ eq pos f d n a b e =
       is = subst (λ (pl : Plan f). count f pl ≡ n) same (r .is);
       least = λ p o h. r .least p (planOf o f) h;
     }
-
-pub lower-offs : (τ : Cell) → τ.cu ≡ τ.cb + τ.D → 1 ≤ τ.D → (f : Hanging) (offs : ℕ → List ℕ) (p : ℕ) → Good τ f (planOf offs f) → load τ f (planOf offs f) ≤ τ.cu → Par τ p f (planOf offs f)
-    → Covers τ (node τ f p) (count f (planOf offs f)) (load τ f (planOf offs f))
-lower-offs τ eq pos f offs p = lower-bound τ eq pos f (planOf offs f) p
