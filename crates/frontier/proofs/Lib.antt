@@ -3,3 +3,8 @@ pub mod Attained
 pub mod Best
 pub mod Counting
 pub mod Offsets
+pub mod Hangs
+pub mod Placing
+pub mod Loads
+pub mod Senses
+pub mod LeastCount

@@ -13,7 +13,7 @@ use Rattle.net.specs.Sum.{sumOver}
 use Rattle.frontier.specs.Cell.{Cell}
 use Rattle.frontier.specs.Plan.{Plan, planOf, count, Settled}
 use Rattle.frontier.specs.Frontier.{State, lost, has, root}
-use Rattle.frontier.proofs.Counting.{hit, hit-same, hit-other}
+use Rattle.frontier.proofs.Counting.{hit, hit-same, Every, every-hit}
 use Rattle.frontier.proofs.Best.{Best, optimal}
 
 abbrev pub Distinct : Hanging → Type 0
@@ -36,11 +36,10 @@ lookup-off (branch i w f r) pl j h =
     rw (ne-eqb i j (missed i j (sumOver (hit j) f + sumOver (hit j) r) h), lookup-off f (pl .1) j (omega arith)) (lookup-off r (pl .2) j (omega arith))
 
 -- two plans are one where their offsets agree on the tree's wires
-pub plan-ext : (o o′ : ℕ → List ℕ) (f : Hanging) → ((j : ℕ) → 1 ≤ sumOver (hit j) f → o j ≡ o′ j) → planOf o f ≡ planOf o′ f
-unfolding sumOver
+pub plan-ext : (o o′ : ℕ → List ℕ) (f : Hanging) → Every (λ j. o j ≡ o′ j) f → planOf o f ≡ planOf o′ f
 plan-ext o o′ none h = refl
-plan-ext o o′ (sink i w c s r) h = cc (h i (omega (arith, hit-same i i refl)), plan-ext o o′ r (λ j m. h j (omega arith)))
-plan-ext o o′ (branch i w f r) h = cc (h i (omega (arith, hit-same i i refl)), plan-ext o o′ f (λ j m. h j (omega arith)), plan-ext o o′ r (λ j m. h j (omega arith)))
+plan-ext o o′ (sink i w c s r) h = cc (h .0, plan-ext o o′ r (h .1))
+plan-ext o o′ (branch i w f r) h = cc (h .0, plan-ext o o′ f (h .1), plan-ext o o′ r (h .2))
 
 apart : (i j x : ℕ) → hit j i + x ≤ 1 → 1 ≤ x → i ≡ j → ⊥
 apart i j x h g e = omega (arith, hit-same j i e)
@@ -50,16 +49,16 @@ unfolding lookup sumOver
 lookup-plan none pl d = refl
 lookup-plan (sink i w c s r) pl d =
     let here : lookup (sink i w c s r) pl i ≡ pl .0 = rw (eq-eqb i i refl) in
-    let rest : planOf (lookup (sink i w c s r) pl) r ≡ pl .1 = plan-ext _ _ r (λ j m. rw (ne-eqb i j (apart i j (sumOver (hit j) r) (d j) m)))
+    let rest : planOf (lookup (sink i w c s r) pl) r ≡ pl .1 = plan-ext _ _ r (every-hit _ r (λ j m. rw (ne-eqb i j (apart i j (sumOver (hit j) r) (d j) m))))
     ∙ lookup-plan r (pl .1) (λ j. omega (arith, d j)) in
     λ ι. (here ι, rest ι)
 lookup-plan (branch i w f r) pl d =
     let here : lookup (branch i w f r) pl i ≡ pl .0 = rw (eq-eqb i i refl) in
-    let below : planOf (lookup (branch i w f r) pl) f ≡ pl .1 = plan-ext _ _ f
-    (λ j m. rw (ne-eqb i j (apart i j (sumOver (hit j) f + sumOver (hit j) r) (d j) (omega arith)), lookup-off r (pl .2) j (omega (arith, d j))) (append-nil (lookup f (pl .1) j)))
+    let below : planOf (lookup (branch i w f r) pl) f ≡ pl .1 = plan-ext _ _ f (every-hit _ f
+    (λ j m. rw (ne-eqb i j (apart i j (sumOver (hit j) f + sumOver (hit j) r) (d j) (omega arith)), lookup-off r (pl .2) j (omega (arith, d j))) (append-nil (lookup f (pl .1) j))))
     ∙ lookup-plan f (pl .1) (λ j. omega (arith, d j)) in
-    let rest : planOf (lookup (branch i w f r) pl) r ≡ pl .2 = plan-ext _ _ r
-    (λ j m. rw (ne-eqb i j (apart i j (sumOver (hit j) f + sumOver (hit j) r) (d j) (omega arith)), lookup-off f (pl .1) j (omega (arith, d j))))
+    let rest : planOf (lookup (branch i w f r) pl) r ≡ pl .2 = plan-ext _ _ r (every-hit _ r
+    (λ j m. rw (ne-eqb i j (apart i j (sumOver (hit j) f + sumOver (hit j) r) (d j) (omega arith)), lookup-off f (pl .1) j (omega (arith, d j)))))
     ∙ lookup-plan r (pl .2) (λ j. omega (arith, d j)) in
     λ ι. (here ι, below ι, rest ι)
 
