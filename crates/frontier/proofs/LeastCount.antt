@@ -22,6 +22,9 @@ use Rattle.frontier.proofs.Placing.{in-order-rises, entries-counted, pl
 use Rattle.frontier.proofs.Loads.{tree-count, good-if-fits, source-fits, rises-if-good, fits-if-good}
 use Rattle.frontier.proofs.Senses.{one-sense-if-par, par-if-one-sense}
 
+pub one-least : {n : Net} {k m : ℕ} → Least n k → Least n m → k ≡ m
+one-least a b = omega (arith, a .fewest (b .placement) (b .legal), b .fewest (a .placement) (a .legal))
+
 module _ {n : Net} (s : SoundNet n) where
   -- ---- a list that is legal settles the tree, and the other way round
   pub legal-settles : (p : List Entry) (l : Legal n p) → Settled (cellOf (n .limits)) (l .parity .one % 2) (tree n) (planOf (offsetsOn p) (tree n))
@@ -64,3 +67,25 @@ module _ {n : Net} (s : SoundNet n) where
 
   pub none-if-lost : root (cellOf (n .limits)) (tree n) ≡ lost → NoneLegal n
   none-if-lost e p l = hopeless (cellOf (n .limits)) (omega (arith, s .half)) (omega (arith, s .half)) (tree n) e (l .parity .one % 2) (planOf (offsetsOn p) (tree n)) (legal-settles p l)
+
+  -- ---- and the other way round
+  pub lost-if-none : NoneLegal n → root (cellOf (n .limits)) (tree n) ≡ lost
+  lost-if-none h = go (root (cellOf (n .limits)) (tree n)) refl
+    where
+      go : (st : State) → root (cellOf (n .limits)) (tree n) ≡ st → st ≡ lost
+      go lost e = refl
+      go (has k a b) e = let l : Least n k = least-if-has k a b e in absurd (h (l .placement) (l .legal))
+
+  pub has-if-least : (k : ℕ) → Least n k → (a : ℕ) × (b : ℕ) × (root (cellOf (n .limits)) (tree n) ≡ has k a b)
+  has-if-least k l = go (root (cellOf (n .limits)) (tree n)) refl
+    where
+      go : (st : State) → root (cellOf (n .limits)) (tree n) ≡ st → (a : ℕ) × (b : ℕ) × (root (cellOf (n .limits)) (tree n) ≡ has k a b)
+      go lost e = absurd (none-if-lost e (l .placement) (l .legal))
+      go (has m a b) e = let q : m ≡ k = one-least (least-if-has m a b e) l in (a, b, rw (← q) e)
+
+  -- ---- offsets that settle the tree with no more entries than the root says are a least placement
+  pub placed-is-least : (k a b : ℕ) → root (cellOf (n .limits)) (tree n) ≡ has k a b → (q : ℕ) (offs : ℕ → List ℕ) → Settled (cellOf (n .limits)) q (tree n) (planOf offs (tree n))
+      → count (tree n) (planOf offs (tree n)) ≤ k → Legal n (placed n offs) × (length (placed n offs) ≡ k)
+  placed-is-least k a b e q offs t h =
+      let legal : Legal n (placed n offs) = placed-is-legal q offs t in
+      (legal, omega (arith, placed-count offs, least-if-has k a b e .fewest (placed n offs) legal))
