@@ -38,7 +38,7 @@ module _ {n : Net} (s : SoundNet n) where
   pub count-is-length : (p : List Entry) → InOrder n start p → count (tree n) (planOf (offsetsOn p) (tree n)) ≡ length p
   count-is-length p o = tree-count s (offsetsOn p) ∙ entries-counted n start p o
 
-  settled-is-legal : (p : List Entry) (q : ℕ) → InOrder n start p → Settled (cellOf (n .limits)) q (tree n) (planOf (offsetsOn p) (tree n)) → Legal n p
+  pub settled-is-legal : (p : List Entry) (q : ℕ) → InOrder n start p → Settled (cellOf (n .limits)) q (tree n) (planOf (offsetsOn p) (tree n)) → Legal n p
   settled-is-legal p q o t = record {
     stands = o;
     loads = fits-if-good s (offsetsOn p) (t .good) (t .fits);

@@ -8,3 +8,4 @@ pub mod Placing
 pub mod Loads
 pub mod Senses
 pub mod LeastCount
+pub mod Starred

@@ -80,7 +80,7 @@ module _ (τ : Cell) (eq : τ.cu ≡ τ.cb + τ.D) (pos : 1 ≤ τ.D) where
   T-more v zero t h g e = omega arith
   T-more v (suc r) t h g e = omega arith
 
-  topW-thick : (w at : ℕ) (os : List ℕ) → τ.cb ≤ topW τ w at τ.cb os
+  pub topW-thick : (w at : ℕ) (os : List ℕ) → τ.cb ≤ topW τ w at τ.cb os
   unfolding handsUp
   topW-thick w at [] = omega arith
   topW-thick w at (o ∷ os) = topW-thick w o os

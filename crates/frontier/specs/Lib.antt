@@ -2,3 +2,4 @@ pub mod Cell
 pub mod Plan
 pub mod Frontier
 pub mod Placed
+pub mod Starred
