@@ -9,7 +9,7 @@ use Rattle.net.specs.Tree.{Hanging, none, sink, branch}
 use Rattle.net.specs.Load.{handsUp}
 use Rattle.frontier.specs.Cell.{Kind, buf, inv, Cell, turn}
 use Rattle.frontier.specs.Plan.{Plan, count, GoodW, topW, load, Good, Par}
-use Rattle.frontier.specs.Frontier.{State, lost, has, Acc, fail, all, ifz, mergeBy, merge, width, ceil, req, T, second, cand, via, wire, conv, join, closeAt, close, leaf, acc, node}
+use Rattle.frontier.specs.Frontier.{State, lost, has, Acc, fail, all, ifz, mergeBy, merge, width, atSurplus, req, T, second, cand, via, wire, conv, join, closeAt, close, leaf, acc, node}
 use Rattle.frontier.proofs.Lower.{T-mono, ceil-ok, Tidy, close-tidy, leaf-tidy}
 
 -- a state is attained by a family Y of counts and loads that is closed upwards
@@ -229,7 +229,7 @@ module _ (τ : Cell) (eq : τ.cu ≡ τ.cb + τ.D) (pos : 1 ≤ τ.D) where
     join-att (has m a b) fail y z = tt
     join-att (has m a b) (all n g) y z = conv-att m a b n g (y .0) (y .1) z
 
-  ifz-att : (Z : ℕ → ℕ → Type 0) → Up Z → (x m e : ℕ) (g : ℕ → ℕ) (rest : State) → ((e : ℕ) → Z (m + e) (g e)) → SAtt Z rest → SAtt Z (ifz x (has (m + e) (g e) (min (g e) (g (suc e)))) rest)
+  ifz-att : (Z : ℕ → ℕ → Type 0) → Up Z → (x m e : ℕ) (g : ℕ → ℕ) (rest : State) → ((e : ℕ) → Z (m + e) (g e)) → SAtt Z rest → SAtt Z (ifz x (atSurplus m e g) rest)
   ifz-att Z up zero m e g rest z y =
       (z e, pick Z (suc (m + e)) (g e) (g (suc e)) (up (m + e) (suc (m + e)) (g e) (g e) (omega arith) (omega arith) (z e)) (up (m + suc e) (suc (m + e)) (g (suc e)) (g (suc e)) (omega arith) (omega arith) (z (suc e))))
   ifz-att Z up (suc x) m e g rest z y = y

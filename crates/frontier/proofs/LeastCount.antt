@@ -1,5 +1,5 @@
 -- The frontier at the source is the net's least count, and lost exactly where no placement is legal: the theorem over the tree, brought to the definitions.
-use Prim.Native.Nat.{ℕ, zero, suc, _+_, _-_, _*_, _%_, _≤_, _<_}
+use Prim.Native.Nat.{ℕ, _-_, _%_, _≤_}
 use mathlib.Core.Path.{_≡_, refl, sym, subst, _∙_}
 use mathlib.Core.List.{List}
 use lib.ListN.{length}
@@ -11,9 +11,9 @@ use Rattle.net.specs.Load.{offsetsOn}
 use Rattle.net.specs.Legal.{InOrder, start, Legal, Least, NoneLegal}
 use Rattle.net.specs.Sound.{SoundNet}
 use Rattle.frontier.specs.Cell.{cellOf}
-use Rattle.frontier.specs.Plan.{Plan, planOf, count, load, Good, Settled}
+use Rattle.frontier.specs.Plan.{planOf, count, Settled}
 use Rattle.frontier.specs.Frontier.{State, lost, has, root}
-use Rattle.frontier.specs.Placed.{onWires, placed}
+use Rattle.frontier.specs.Placed.{placed}
 use Rattle.frontier.proofs.Counting.{at-most-once}
 use Rattle.frontier.proofs.Best.{hopeless}
 use Rattle.frontier.proofs.Offsets.{plan-ext, BestOffs, optimal-offs}

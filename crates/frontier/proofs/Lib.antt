@@ -9,3 +9,4 @@ pub mod Loads
 pub mod Senses
 pub mod LeastCount
 pub mod Starred
+pub mod Cert

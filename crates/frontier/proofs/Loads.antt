@@ -8,15 +8,15 @@ use native.Mathlib.Decide.{ℕ-discrete}
 use borrow.Author.Tests.{eq-eqb, ne-eqb}
 use Rattle.net.specs.Net.{Net, places, wire, kind, pin}
 use Rattle.net.specs.Tree.{Hanging, none, sink, branch, under, tree}
-use Rattle.net.specs.Load.{drives, handsUp, handedBy, loadBelow, drivenOn, joined, driven, sourceDrives}
+use Rattle.net.specs.Load.{drives, handedBy, loadBelow, drivenOn, joined, driven, sourceDrives}
 use Rattle.net.specs.Legal.{Each}
 use Rattle.net.specs.Sound.{SoundNet}
 use Rattle.net.specs.Sum.{sumOver, sumFrom}
 use Rattle.net.proofs.EachWireOnce.{each-wire-once}
 use Rattle.frontier.specs.Cell.{Cell, cellOf}
-use Rattle.frontier.specs.Plan.{Plan, planOf, count, GoodW, topW, load, Good}
+use Rattle.frontier.specs.Plan.{planOf, count, GoodW, load, Good}
 use Rattle.frontier.proofs.Counting.{Every}
-use Rattle.frontier.proofs.Hangs.{WireAt, Hangs, tree-hangs, every-from, every-wire}
+use Rattle.frontier.proofs.Hangs.{Hangs, tree-hangs, every-from, every-wire}
 use Rattle.frontier.proofs.Placing.{Rising}
 
 -- ---- each of a list, and of lists one after the other

@@ -1,5 +1,5 @@
 -- No plan does better than the frontier says: walking up from the sinks, a count and a load of a legal plan are always met by the state there.
-use Prim.Native.Nat.{ℕ, zero, suc, _+_, _-_, _*_, _%_, _≤_, _<_, min, max}
+use Prim.Native.Nat.{ℕ, zero, suc, _+_, _-_, _*_, _%_, _≤_, _<_, min}
 use mathlib.Core.Path.{_≡_, refl, subst}
 use mathlib.Core.List.{List, [], _∷_}
 use lib.ListN.{length}
@@ -9,7 +9,7 @@ use Rattle.net.specs.Tree.{Hanging, none, sink, branch}
 use Rattle.net.specs.Load.{handsUp}
 use Rattle.frontier.specs.Cell.{Kind, buf, inv, Cell, turn}
 use Rattle.frontier.specs.Plan.{Plan, count, GoodW, topW, load, Good, Par}
-use Rattle.frontier.specs.Frontier.{State, lost, has, Acc, fail, all, ifz, mergeBy, merge, width, ceil, req, T, second, cand, via, wire, conv, join, closeAt, close, leaf, acc, node}
+use Rattle.frontier.specs.Frontier.{State, lost, has, Acc, fail, all, ifz, mergeBy, merge, width, atSurplus, ceil, req, T, second, cand, via, wire, conv, join, closeAt, close, leaf, acc, node}
 
 -- a real count c with the load l is met by the state
 pub data Bd (m a b c l : ℕ) : Type 0 where
@@ -213,10 +213,10 @@ module _ (τ : Cell) (eq : τ.cu ≡ τ.cb + τ.D) (pos : 1 ≤ τ.D) where
   join-lb (has m a b) (all m′ g) n c c′ t l (at1 x y) th (e, i, j, v) = (suc e, omega arith, omega arith, omega (arith, conv-1 a b g e))
   join-lb (has m a b) (all m′ g) n c c′ t l (more x) th (e, i, j, v) = (suc (suc e), omega arith, omega arith, omega (arith, conv-2 a b g e, th (omega arith)))
 
-  fit-lb : (m e : ℕ) (g : ℕ → ℕ) (c l e′ : ℕ) → e ≤ e′ → m + e′ ≤ c → g e′ ≤ l → Bd (m + e) (g e) (min (g e) (g (suc e))) c l
+  fit-lb : (m e : ℕ) (g : ℕ → ℕ) (c l e′ : ℕ) → e ≤ e′ → m + e′ ≤ c → g e′ ≤ l → LB (atSurplus m e g) c l
   fit-lb m e g c l e′ h i v = go (c - (m + e)) (e′ - e) refl refl
     where
-      go : (z d : ℕ) → c - (m + e) ≡ z → e′ - e ≡ d → Bd (m + e) (g e) (min (g e) (g (suc e))) c l
+      go : (z d : ℕ) → c - (m + e) ≡ z → e′ - e ≡ d → LB (atSurplus m e g) c l
       go zero d q j = let x : e′ ≡ e = omega arith in at0 (omega arith) (subst (λ (y : ℕ). g y ≤ l) x v)
       go (suc zero) zero q j =
           let x : e′ ≡ e = omega arith in
@@ -229,7 +229,7 @@ module _ (τ : Cell) (eq : τ.cu ≡ τ.cb + τ.D) (pos : 1 ≤ τ.D) where
       go (suc (suc z)) d q j = more (omega arith)
 
   step-lb : (m e : ℕ) (g : ℕ → ℕ) (c l e′ : ℕ) (rest : State) → e ≤ e′ → m + e′ ≤ c → g e′ ≤ l → l ≤ τ.cu → (suc e ≤ e′ → LB rest c l) → (z d : ℕ) → g e - τ.cu ≡ z → e′ - e ≡ d
-      → LB (ifz z (has (m + e) (g e) (min (g e) (g (suc e)))) rest) c l
+      → LB (ifz z (atSurplus m e g) rest) c l
   step-lb m e g c l e′ rest h i v lc ih zero d q j = fit-lb m e g c l e′ h i v
   step-lb m e g c l e′ rest h i v lc ih (suc z) zero q j =
       let x : e′ ≡ e = omega arith in
@@ -254,9 +254,9 @@ module _ (τ : Cell) (eq : τ.cu ≡ τ.cb + τ.D) (pos : 1 ≤ τ.D) where
 
   closeAt-tidy : (n m e : ℕ) (g : ℕ → ℕ) → Tidy τ (closeAt τ n m e g)
   unfolding closeAt
-  closeAt-tidy zero m e g = ifz-tidy (g e - τ.cu) (g e) τ.cu (has (m + e) (g e) (min (g e) (g (suc e)))) lost refl (λ x. (x, omega arith)) tt
+  closeAt-tidy zero m e g = ifz-tidy (g e - τ.cu) (g e) τ.cu (atSurplus m e g) lost refl (λ x. (x, omega arith)) tt
   closeAt-tidy (suc n) m e g =
-      ifz-tidy (g e - τ.cu) (g e) τ.cu (has (m + e) (g e) (min (g e) (g (suc e)))) (closeAt τ n m (suc e) g) refl (λ x. (x, omega arith)) (closeAt-tidy n m (suc e) g)
+      ifz-tidy (g e - τ.cu) (g e) τ.cu (atSurplus m e g) (closeAt τ n m (suc e) g) refl (λ x. (x, omega arith)) (closeAt-tidy n m (suc e) g)
 
   pub close-tidy : (n : ℕ) (x : Acc) → Tidy τ (close τ n x)
   unfolding close

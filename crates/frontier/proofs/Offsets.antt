@@ -1,18 +1,16 @@
 -- Where no wire of a tree has the number of another, every plan is one of offsets by wire number, so the theorem holds of those too.
-use Prim.Native.Nat.{ℕ, zero, suc, _+_, _-_, _≤_, _<_}
+use Prim.Native.Nat.{ℕ, _+_, _≤_}
 use mathlib.Core.Path.{_≡_, refl, sym, subst, _∙_}
-use mathlib.Core.List.{List, [], _∷_, _++_, append-nil}
-use lib.ListN.{length}
+use mathlib.Core.List.{List, [], _++_, append-nil}
 use lib.Dec.{eqb}
 use native.Mathlib.Omega.{arith}
-use native.Mathlib.Decide.{ℕ-discrete}
 use borrow.Author.Tests.{eq-eqb, ne-eqb}
 use Rattle.net.specs.Choose.{pick}
 use Rattle.net.specs.Tree.{Hanging, none, sink, branch}
 use Rattle.net.specs.Sum.{sumOver}
 use Rattle.frontier.specs.Cell.{Cell}
 use Rattle.frontier.specs.Plan.{Plan, planOf, count, Settled}
-use Rattle.frontier.specs.Frontier.{State, lost, has, root}
+use Rattle.frontier.specs.Frontier.{has, root}
 use Rattle.frontier.proofs.Counting.{hit, hit-same, Every, every-hit}
 use Rattle.frontier.proofs.Best.{Best, optimal}
 

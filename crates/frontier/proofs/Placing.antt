@@ -9,7 +9,7 @@ use borrow.Author.Tests.{eq-eqb, ne-eqb}
 use Rattle.net.specs.declared.Entry.{Entry}
 use Rattle.net.specs.Net.{Net, places, wire}
 use Rattle.net.specs.Load.{offsetsOn}
-use Rattle.net.specs.Legal.{After, higher, further, Stands, InOrder, start}
+use Rattle.net.specs.Legal.{After, higher, further, InOrder, start}
 use Rattle.net.specs.Sum.{sumFrom}
 use Rattle.frontier.specs.Placed.{onWire, onWires, placed}
 use Rattle.frontier.proofs.Counting.{hit, hit-same, hit-other, hits-one}

@@ -1,5 +1,5 @@
 -- The definitions' one sense for all sinks and the model's polarity at each point are the same: a point's polarity is the source's, turned by the entries on the way.
-use Prim.Native.Nat.{ℕ, zero, suc, _+_, _-_, _*_, _%_, _≤_, _<_}
+use Prim.Native.Nat.{ℕ, zero, suc, _+_, _*_, _%_, _≤_, _<_}
 use mathlib.Core.Path.{_≡_, refl, sym, _∙_}
 use mathlib.Core.List.{List}
 use lib.ListN.{length}
@@ -8,9 +8,9 @@ use native.Mathlib.Decide.{ℕ-discrete}
 use borrow.Author.Tests.{ne-eqb}
 use Rattle.net.specs.Net.{Net, places, parent, kind, polarity}
 use Rattle.net.specs.Tree.{Hanging, none, sink, branch, tree}
-use Rattle.net.specs.Legal.{onTheWay, inverters, Sink, sense, OneSense}
+use Rattle.net.specs.Legal.{onTheWay, inverters, OneSense}
 use Rattle.net.specs.Sound.{SoundNet}
-use Rattle.frontier.specs.Cell.{Kind, buf, inv, Cell, kindOf, cellOf, turn}
+use Rattle.frontier.specs.Cell.{Kind, buf, inv, kindOf, cellOf, turn}
 use Rattle.frontier.specs.Plan.{planOf, Par}
 use Rattle.frontier.proofs.Counting.{Every}
 use Rattle.frontier.proofs.Hangs.{WireAt, Hangs, tree-hangs, every-from, every-wire}

@@ -1,6 +1,6 @@
 -- The starred nets: the counts by computing the frontier, and the offsets from what legal means on so small a tree.
 use Prim.Native.Nat.{ℕ, zero, suc, _+_, _-_, _≤_}
-use mathlib.Core.Path.{_≡_, refl, sym, subst}
+use mathlib.Core.Path.{_≡_, refl, subst}
 use mathlib.Core.List.{List, [], _∷_}
 use lib.ListN.{length, getD}
 use native.Mathlib.Omega.{arith}
@@ -12,12 +12,11 @@ use Rattle.net.specs.Tree.{hanging, tree}
 use Rattle.net.specs.Load.{offsetsOn, handsUp}
 use Rattle.net.specs.Legal.{higher, further, Legal, Least, NoneLegal}
 use Rattle.net.specs.Judge.{children, nodesJudged, childedFrom, judged}
-use Rattle.net.specs.Ease.{Eases}
 use Rattle.net.specs.Sound.{SoundNet}
 use Rattle.net.proofs.SoundSays.{sound-says}
 use Rattle.frontier.specs.Cell.{cellOf}
 use Rattle.frontier.specs.Frontier.{State, lost, has, root, ceil, req, second, cand, via, wire, conv, join, closeAt, close, leaf, acc}
-use Rattle.frontier.specs.Starred.{limits, point, plus, minus, netOf, on, AnyOffset, TwoOnOne, Carry, starred, AllSay}
+use Rattle.frontier.specs.Starred.{limits, plus, minus, netOf, on, AnyOffset, TwoOnOne, Carry, starred, AllSay, done, _and_}
 use Rattle.frontier.proofs.Lower.{topW-thick}
 use Rattle.frontier.proofs.LeastCount.{legal-settles, count-is-length, settled-is-legal, least-if-has, none-if-lost}
 
@@ -44,20 +43,18 @@ none-legal {n} s = go (root (cellOf (n .limits)) (tree n)) refl
 abbrev wire-over : ℕ → ℕ → Net
 wire-over w c = netOf (limits 0 10 2) (plus 0 w c ∷ [])
 
-buffered : (w c : ℕ) → SoundNet (wire-over w c) → (o : ℕ) → o ≤ w → o + c ≤ 10 → (w - o) + 2 ≤ 10 → Legal (wire-over w c) (on 1 o ∷ [])
-unfolding hanging offsetsOn handsUp
-buffered w c s o i j k =
-    settled-is-legal s (on 1 o ∷ []) 0 (higher (omega arith), record { above = omega arith; within = omega arith; offset = i }, tt)
-    (record { pol = omega arith; good = ((omega arith, omega arith, i), tt); fits = omega arith; par = (refl, tt) })
-
 record Fits (w c o : ℕ) : Type 0 where
   inside : o ≤ w
   driven : o + c ≤ 10
   up : (w - o) + 2 ≤ 10
 
-must-fit : (w c : ℕ) → SoundNet (wire-over w c) → (o : ℕ) → Legal (wire-over w c) (on 1 o ∷ []) → Fits w c o
+fits-legal : (w c : ℕ) → SoundNet (wire-over w c) → (o : ℕ) → Fits w c o → Legal (wire-over w c) (on 1 o ∷ [])
 unfolding hanging offsetsOn handsUp
-must-fit w c s o l =
+fits-legal w c s o f = settled-is-legal s (on 1 o ∷ []) 0 (higher (omega arith), omega arith, tt) (omega arith)
+
+legal-fits : (w c : ℕ) → SoundNet (wire-over w c) → (o : ℕ) → Legal (wire-over w c) (on 1 o ∷ []) → Fits w c o
+unfolding hanging offsetsOn handsUp
+legal-fits w c s o l =
     let t = legal-settles s (on 1 o ∷ []) l in
     record { inside = t .good .0 .2; driven = omega (arith, t .good .0 .1); up = omega (arith, t .fits) }
 
@@ -73,10 +70,10 @@ any-offset : (w c first last : ℕ) → SoundNet (wire-over w c) → Least (wire
     → AnyOffset (wire-over w c) first last
 any-offset w c first last s k fit bound = record {
   count = k;
-  any = λ o a b. let f : Fits w c o = fit o a b in buffered w c s o (f .inside) (f .driven) (f .up);
+  any = λ o a b. fits-legal w c s o (fit o a b);
   only = λ p l e.
       let x : (o : ℕ) × (p ≡ on 1 o ∷ []) = on-wire-1 w c p l e in
-      let y : (first ≤ x .0) × (x .0 ≤ last) = bound (x .0) (must-fit w c s (x .0) (subst (Legal (wire-over w c)) (x .1) l)) in
+      let y : (first ≤ x .0) × (x .0 ≤ last) = bound (x .0) (legal-fits w c s (x .0) (subst (Legal (wire-over w c)) (x .1) l)) in
       (x .0, y .0, y .1, x .1);
 }
 
@@ -125,23 +122,16 @@ carried-over s = record {
     wires = λ i. eased 15 10 i (omega arith);
     pins = λ i. eased 4 4 i (omega arith);
   };
-  legal = settled-is-legal s (on 1 6 ∷ on 1 14 ∷ []) 0
-      (higher (omega arith), record { above = omega arith; within = omega arith; offset = omega arith }, (further refl (omega arith), record { above = omega arith; within = omega arith; offset = omega arith }, tt))
-      (record { pol = omega arith; good = omega arith; fits = omega arith; par = (refl, tt) });
+  legal = settled-is-legal s (on 1 6 ∷ on 1 14 ∷ []) 0 (higher (omega arith), omega arith, (further refl (omega arith), omega arith, tt)) (omega arith);
   is = refl;
 }
-
-infixr 4 _and_
-_and_ : {A B : Type 0} → A → B → A × B
-a and b = (a, b)
 
 pub starred-say : AllSay starred
 unfolding judged nodesJudged children childedFrom hanging ceil req second cand via wire conv join closeAt close leaf acc
 starred-say =
     counted refl refl
-    and any-offset 7 4 0 6 (sound-says _ refl) (counted refl refl) (λ o a b. record { inside = omega arith; driven = omega arith; up = omega arith }) (λ o f. (omega arith, omega (arith, f .driven)))
-    and any-offset 14 4 6 6 (sound-says _ refl) (counted refl refl) (λ o a b. record { inside = omega arith; driven = omega arith; up = omega arith })
-    (λ o f. (omega (arith, f .up), omega (arith, f .driven)))
+    and any-offset 7 4 0 6 (sound-says _ refl) (counted refl refl) (omega arith) (omega arith)
+    and any-offset 14 4 6 6 (sound-says _ refl) (counted refl refl) (omega arith) (omega arith)
     and counted refl refl
     and counted refl refl
     and counted refl refl
@@ -153,4 +143,4 @@ starred-say =
     and two-on-one (sound-says _ refl) (counted refl refl)
     and counted refl refl
     and carried-over (sound-says _ refl)
-    and tt
+    and done

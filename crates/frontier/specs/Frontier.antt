@@ -1,6 +1,6 @@
 -- The frontier: for a node or a wire, and each polarity it may have, the least count and the least loads at that count and one more.
 -- Computed from the sinks up; at the source it is the net's least count.
-use Prim.Native.Nat.{ℕ, zero, suc, _+_, _-_, _*_, _/_, _%_, _≤_, min, max}
+use Prim.Native.Nat.{ℕ, zero, suc, _+_, _-_, _*_, _/_, _%_, min, max}
 use Rattle.net.specs.Tree.{Hanging, none, sink, branch}
 use Rattle.frontier.specs.Cell.{Kind, buf, inv, Cell}
 
@@ -36,6 +36,10 @@ abbrev pub width : Hanging → ℕ
 width none = 0
 width (sink i w c s r) = suc (width r)
 width (branch i w f r) = suc (width r)
+
+-- a node with the surplus e over the sum m, where the load is g e
+abbrev pub atSurplus : ℕ → ℕ → (ℕ → ℕ) → State
+atSurplus m e g = has (m + e) (g e) (min (g e) (g (suc e)))
 
 module _ (τ : Cell) where
   -- the least r with v ≤ cu + r * D
@@ -83,8 +87,8 @@ module _ (τ : Cell) where
 
   -- the least surplus, from e to e + n, at which the load fits
   unfoldable pub closeAt : ℕ → ℕ → ℕ → (ℕ → ℕ) → State
-  closeAt zero m e g = ifz (g e - τ.cu) (has (m + e) (g e) (min (g e) (g (suc e)))) lost
-  closeAt (suc n) m e g = ifz (g e - τ.cu) (has (m + e) (g e) (min (g e) (g (suc e)))) (closeAt n m (suc e) g)
+  closeAt zero m e g = ifz (g e - τ.cu) (atSurplus m e g) lost
+  closeAt (suc n) m e g = ifz (g e - τ.cu) (atSurplus m e g) (closeAt n m (suc e) g)
 
   unfoldable pub close : ℕ → Acc → State
   close n fail = lost

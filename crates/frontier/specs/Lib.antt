@@ -3,3 +3,4 @@ pub mod Plan
 pub mod Frontier
 pub mod Placed
 pub mod Starred
+pub mod Cert

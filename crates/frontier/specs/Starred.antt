@@ -94,6 +94,8 @@ starred =
     ∷ buffers (plus 0 15 4 ∷ []) (carry (plus 0 10 4 ∷ []) (on 1 6 ∷ on 1 14 ∷ []) (on 1 6 ∷ on 1 10 ∷ []))
     ∷ []
 
-abbrev pub AllSay : List Row → Type 0
-AllSay [] = Unit {0}
-AllSay (r ∷ rs) = Says (r .limits) (r .nodes) (r .answer) × AllSay rs
+-- every row holds
+infixr 5 _and_
+pub data AllSay : List Row → Type 0 where
+  done : AllSay []
+  _and_ : {r : Row} {rs : List Row} → Says (r .limits) (r .nodes) (r .answer) → AllSay rs → AllSay (r ∷ rs)
