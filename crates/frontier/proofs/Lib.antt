@@ -1,0 +1,12 @@
+pub mod Lower
+pub mod Attained
+pub mod Best
+pub mod Counting
+pub mod Offsets
+pub mod Hangs
+pub mod Placing
+pub mod Loads
+pub mod Senses
+pub mod LeastCount
+pub mod Starred
+pub mod Cert

@@ -1,0 +1,6 @@
+pub mod Cell
+pub mod Plan
+pub mod Frontier
+pub mod Placed
+pub mod Starred
+pub mod Cert
