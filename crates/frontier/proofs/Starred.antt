@@ -11,7 +11,7 @@ use Rattle.net.specs.Net.{Net}
 use Rattle.net.specs.Tree.{hanging, tree}
 use Rattle.net.specs.Load.{offsetsOn, handsUp}
 use Rattle.net.specs.Legal.{higher, further, Legal, Least, NoneLegal}
-use Rattle.net.specs.Judge.{children, nodesJudged, childedFrom, judged}
+use Rattle.net.specs.Judge.{judgeEach, children, judged}
 use Rattle.net.specs.Sound.{SoundNet}
 use Rattle.net.proofs.SoundSays.{sound-says}
 use Rattle.frontier.specs.Cell.{cellOf}
@@ -127,7 +127,7 @@ carried-over s = record {
 }
 
 pub starred-say : AllSay starred
-unfolding judged nodesJudged children childedFrom hanging ceil req second cand via wire conv join closeAt close leaf acc
+unfolding judged judgeEach children hanging ceil req second cand via wire conv join closeAt close leaf acc
 starred-say =
     counted refl refl
     and any-offset 7 4 0 6 (sound-says _ refl) (counted refl refl) (omega arith) (omega arith)
