@@ -1,0 +1,6 @@
+pub mod Numbers
+pub mod Reading
+pub mod Writing
+pub mod RoundTrip
+pub mod Determined
+pub mod Example
