@@ -1,6 +1,7 @@
 pub mod Numbers
 pub mod Reading
 pub mod Writing
+pub mod Parts
 pub mod RoundTrip
 pub mod Determined
 pub mod Example

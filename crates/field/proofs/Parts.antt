@@ -1,0 +1,31 @@
+-- "the part of the lent buffer that begins where the last one ended": a run of stores in that part, said of the whole buffer.
+use Prim.Native.Nat.{ℕ, zero, suc, _+_, _-_, _≤_}
+use native.Mathlib.Nat.{zero-add, suc-add, add-zero}
+use native.Mathlib.Omega.{arith}
+use mathlib.Core.Path.{_≡_, refl, sym, ap, _∙_}
+use mathlib.Core.List.{List, [], _∷_, _++_, append-nil}
+use lib.ListN.{length, set, take, drop, length-drop, drop-of-length-le}
+use lib.Seq.{sets, take-all}
+
+sets-cons : (x : ℕ) (xs : List ℕ) (j : ℕ) (vs : List ℕ) → sets (x ∷ xs) (suc j) vs ≡ x ∷ sets xs j vs
+sets-cons x xs j [] = refl
+sets-cons x xs j (v ∷ vs) = sets-cons x (set xs j v) (suc j) vs
+
+sets-drop : (at : ℕ) (l : List ℕ) (i : ℕ) (vs : List ℕ) → at ≤ length l → take at l ++ sets (drop at l) i vs ≡ sets l (at + i) vs
+sets-drop zero l i vs h = ap (λ (k : ℕ). sets l k vs) (sym (zero-add i))
+sets-drop (suc at) [] i vs h = absurd (omega arith)
+sets-drop (suc at) (x ∷ xs) i vs h =
+    ap (λ (r : List ℕ). x ∷ r) (sets-drop at xs i vs (omega arith))
+    ∙ sym (sets-cons x xs (at + i) vs)
+    ∙ ap (λ (k : ℕ). sets (x ∷ xs) k vs) (sym (suc-add at i))
+
+-- a part from `at` to the end, with stores from its front on, put back into the whole
+pub part-back : (l vs : List ℕ) (at : ℕ) → at ≤ length l
+    → take at l ++ (sets (take (length l - at) (drop at l)) 0 vs ++ drop (length l - at) (drop at l)) ≡ sets l at vs
+part-back l vs at h =
+    let e : length (drop at l) ≡ length l - at = length-drop at l in
+    ap (λ (r : List ℕ). take at l ++ (sets r 0 vs ++ drop (length l - at) (drop at l))) (take-all (length l - at) (drop at l) (omega arith))
+    ∙ ap (λ (r : List ℕ). take at l ++ (sets (drop at l) 0 vs ++ r)) (drop-of-length-le (drop at l) {i = length l - at} (omega arith))
+    ∙ ap (λ (r : List ℕ). take at l ++ r) (append-nil (sets (drop at l) 0 vs))
+    ∙ sets-drop at l 0 vs h
+    ∙ ap (λ (k : ℕ). sets l k vs) (add-zero at)
