@@ -14,11 +14,12 @@ use Rattle.frontier.specs.Cell.{cellOf}
 use Rattle.frontier.specs.Plan.{planOf, count, Settled}
 use Rattle.frontier.specs.Frontier.{State, lost, has, root}
 use Rattle.frontier.specs.Placed.{placed}
-use Rattle.frontier.proofs.Counting.{at-most-once}
+use Rattle.net.proofs.Counting.{at-most-once}
 use Rattle.frontier.proofs.Best.{hopeless}
 use Rattle.frontier.proofs.Offsets.{plan-ext, BestOffs, optimal-offs}
 use Rattle.frontier.proofs.Hangs.{tree-hangs, every-from}
-use Rattle.frontier.proofs.Placing.{in-order-rises, entries-counted, placed-offsets, wires-length, placed-in-order}
+use Rattle.net.proofs.Order.{in-order-rises, entries-counted}
+use Rattle.frontier.proofs.Placing.{placed-offsets, wires-length, placed-in-order}
 use Rattle.frontier.proofs.Loads.{tree-count, good-if-fits, source-fits, rises-if-good, fits-if-good}
 use Rattle.frontier.proofs.Senses.{one-sense-if-par, par-if-one-sense}
 

@@ -1,7 +1,6 @@
 pub mod Lower
 pub mod Attained
 pub mod Best
-pub mod Counting
 pub mod Offsets
 pub mod Hangs
 pub mod Placing

@@ -15,35 +15,10 @@ use Rattle.net.specs.Sum.{sumOver, sumFrom}
 use Rattle.net.proofs.EachWireOnce.{each-wire-once}
 use Rattle.frontier.specs.Cell.{Cell, cellOf}
 use Rattle.frontier.specs.Plan.{planOf, count, GoodW, load, Good}
-use Rattle.frontier.proofs.Counting.{Every}
+use Rattle.net.proofs.Counting.{Every}
 use Rattle.frontier.proofs.Hangs.{Hangs, tree-hangs, every-from, every-wire}
-use Rattle.frontier.proofs.Placing.{Rising}
-
--- ---- each of a list, and of lists one after the other
-each-append : (P : ℕ → Type 0) (xs ys : List ℕ) → Each P xs → Each P ys → Each P (xs ++ ys)
-each-append P [] ys a b = b
-each-append P (x ∷ xs) ys a b = (a .0, each-append P xs ys (a .1) b)
-
-each-first : (P : ℕ → Type 0) (xs ys : List ℕ) → Each P (xs ++ ys) → Each P xs
-each-first P [] ys a = tt
-each-first P (x ∷ xs) ys a = (a .0, each-first P xs ys (a .1))
-
-each-last : (P : ℕ → Type 0) (xs ys : List ℕ) → Each P (xs ++ ys) → Each P ys
-each-last P [] ys a = a
-each-last P (x ∷ xs) ys a = each-last P xs ys (a .1)
-
-each-joined : (P : ℕ → Type 0) (f : ℕ → List ℕ) (k i : ℕ) → ((j : ℕ) → i ≤ j → j < i + k → Each P (f j)) → Each P (joined f k i)
-unfolding joined
-each-joined P f zero i h = tt
-each-joined P f (suc k) i h = each-append P (f i) (joined f k (suc i)) (h i (omega arith) (omega arith)) (each-joined P f k (suc i) (λ j a b. h j (omega arith) (omega arith)))
-
-joined-each : (P : ℕ → Type 0) (f : ℕ → List ℕ) (k i : ℕ) → Each P (joined f k i) → (j : ℕ) → i ≤ j → j < i + k → Each P (f j)
-unfolding joined
-joined-each P f zero i h j a b = absurd (omega arith)
-joined-each P f (suc k) i h j a b = elim (ℕ-discrete i j) [
-  | yes e ↦ rw e at (each-first P (f i) (joined f k (suc i)) h)
-  | no ne ↦ joined-each P f k (suc i) (each-last P (f i) (joined f k (suc i)) h) j (omega arith) (omega arith)
-]
+use Rattle.net.proofs.Order.{Rising}
+use Rattle.net.proofs.EachLoad.{each-append, each-first, each-last, each-joined, joined-each}
 
 -- ---- one wire
 module _ (τ : Cell) where

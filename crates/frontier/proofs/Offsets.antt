@@ -11,7 +11,7 @@ use Rattle.net.specs.Sum.{sumOver}
 use Rattle.frontier.specs.Cell.{Cell}
 use Rattle.frontier.specs.Plan.{Plan, planOf, count, Settled}
 use Rattle.frontier.specs.Frontier.{has, root}
-use Rattle.frontier.proofs.Counting.{hit, hit-same, Every, every-hit}
+use Rattle.net.proofs.Counting.{hit, hit-same, Every, every-hit}
 use Rattle.frontier.proofs.Best.{Best, optimal}
 
 abbrev pub Distinct : Hanging → Type 0

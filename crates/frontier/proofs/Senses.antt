@@ -12,7 +12,7 @@ use Rattle.net.specs.Legal.{onTheWay, inverters, OneSense}
 use Rattle.net.specs.Sound.{SoundNet}
 use Rattle.frontier.specs.Cell.{Kind, buf, inv, kindOf, cellOf, turn}
 use Rattle.frontier.specs.Plan.{planOf, Par}
-use Rattle.frontier.proofs.Counting.{Every}
+use Rattle.net.proofs.Counting.{Every}
 use Rattle.frontier.proofs.Hangs.{WireAt, Hangs, tree-hangs, every-from, every-wire}
 
 turn-turn : (κ : Kind) (p a b : ℕ) → turn κ (turn κ p a) b ≡ turn κ p (b + a)

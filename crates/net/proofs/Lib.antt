@@ -4,3 +4,6 @@ pub mod Tests
 pub mod Each
 pub mod SoundSays
 pub mod Judging
+pub mod Counting
+pub mod Order
+pub mod EachLoad
