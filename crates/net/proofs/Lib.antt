@@ -7,3 +7,5 @@ pub mod Judging
 pub mod Counting
 pub mod Order
 pub mod EachLoad
+pub mod EaseKeepsLegal
+pub mod Easing
