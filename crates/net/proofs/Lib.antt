@@ -9,3 +9,5 @@ pub mod Order
 pub mod EachLoad
 pub mod EaseKeepsLegal
 pub mod Easing
+pub mod Examples
+pub mod Determined

@@ -7,7 +7,7 @@ ghost use lib.Dec.{eqb, ltb, leb};
 ghost use Rattle.net.specs.Refusal.{numberOf, placeOf};
 ghost use Rattle.net.specs.Choose.{both};
 ghost use Rattle.net.specs.Net.{netAt, node};
-ghost use Rattle.net.specs.Judge.{limitsInRange, sourceClear, endInRange, nodeInRange, admitted, hasChild, childedBy, judged};
+ghost use Rattle.net.specs.Judge.{limitsInRange, sourceClear, endInRange, nodeInRange, parentFits, admitted, hasChild, childedBy, judged};
 ghost use Rattle.net.specs.Counted.{unlimited, sameLengths, Within, Level, Tallied, NodesJudged};
 
 // The limits of a net: C_U, C_b, and 0 for a buffer or 1 for an inverter.
@@ -155,6 +155,20 @@ fn end_in_range(l: Limits, d: Node) -> bool
     and(d.kind == 0, and(d.pin == 0, d.polarity == 0))
 }
 
+// The parent p of node i is lower, no sink, and has room for a child; and i is no node past the last.
+fn parent_fits(i: usize, p: usize, kinds: &[u8], counts: &[u8; 1025]) -> bool
+    requires { ⌜ (i ≤ length (now kinds)) × (length (now counts) ≡ 1025) ⌝ }
+    ensures { λ r. ⌜ r ≡ parentFits i p (getD (now (kinds .entry)) p 0) (getD (now (counts .entry)) p 0) ⌝ }
+{
+    if 1024 < i {
+        return false;
+    }
+    if i <= p {
+        return false;
+    }
+    and(kinds[p] == 0, counts[p] < 8)
+}
+
 // Node i, over the kinds of the nodes before it and the children that each has so far: 3 before 4. A refusal is at `place`.
 pub fn admit(
     l: Limits,
@@ -170,17 +184,7 @@ pub fn admit(
     if !node_in_range(l, d) {
         return Judged::Refused(Refusal::OutOfRange(place));
     }
-    if 1024 < i {
-        return Judged::Refused(Refusal::WrongParent(place));
-    }
-    let p = d.parent as usize;
-    if i <= p {
-        return Judged::Refused(Refusal::WrongParent(place));
-    }
-    if kinds[p] != 0 {
-        return Judged::Refused(Refusal::WrongParent(place));
-    }
-    if 8 <= counts[p] {
+    if !parent_fits(i, d.parent as usize, kinds, counts) {
         return Judged::Refused(Refusal::WrongParent(place));
     }
     Judged::Sound
