@@ -54,7 +54,7 @@ static void settle_branch(const struct solver *s, size_t node)
     for (int p = 0; p < 2; p++) {
         struct node *at = &s->t->node[node][p];
         const uint32_t *row = s->t->rows + joined->row[p];
-        at->n = NOTHING;
+        *at = (struct node){NOTHING, 0, {0, 0}};
         if (joined->sum[p] == NOTHING || row[last] > s->limits->limit)
             continue;
         uint32_t e = 0;
@@ -67,40 +67,52 @@ static void settle_branch(const struct solver *s, size_t node)
 /* One way over a wire: from a node's polarity q with x entries more below it. */
 struct way { uint64_t count; uint32_t load, entries, below; };
 
-static struct way over(const struct solver *s, size_t wire, int p, int q, int x)
+/* The way with the fewest entries on the wire, whatever their parity. */
+static struct way shortest(const struct solver *s, size_t wire, int q, int x)
 {
     const struct node *at = &s->t->node[wire][q];
-    uint32_t size = s->net->wire[wire], below = at->load[x];
-    uint32_t whole = size + below, step = s->limits->limit - s->limits->pin, entries = 0;
-    if (whole > s->limits->limit)
-        entries = (whole - s->limits->limit + step - 1) / step;
-    if (s->limits->type == 1 && (entries & 1) != (uint32_t)(p ^ q))
-        entries++;
-    struct way way = {at->n + (uint32_t)x + entries, whole, entries, below};
-    if (entries > 0) {
-        uint32_t less = entries * step;
-        way.load = whole > less + s->limits->pin ? whole - less : s->limits->pin;
+    uint32_t below = at->load[x], whole = s->net->wire[wire] + below;
+    struct way way = {at->n + (uint32_t)x, whole, 0, below};
+    if (whole > s->limits->limit) {
+        uint32_t step = s->limits->limit - s->limits->pin;
+        way.entries = (whole - s->limits->limit + step - 1) / step;
+        way.count += way.entries;
+        whole -= way.entries * step;     /* more than C_b - step: may pass below 0 */
+        way.load = (int32_t)whole > (int32_t)s->limits->pin ? whole : s->limits->pin;
     }
     return way;
 }
 
-static void settle_top(const struct solver *s, size_t wire, int p)
+/* The same with the parity that leads from q to p: one entry more hands up just C_b. */
+static struct way toward(const struct solver *s, struct way way, int p, int q)
 {
-    struct way way[4];
-    int ways = 0;
+    if (s->limits->type == 1 && (way.entries & 1) != (uint32_t)(p ^ q)) {
+        way.entries++;
+        way.count++;
+        way.load = s->limits->pin;
+    }
+    return way;
+}
+
+static void settle_top(const struct solver *s, size_t wire, int p, const struct way short_way[4])
+{
     struct top top = {NOTHING, {UINT32_MAX, UINT32_MAX, 0}};
-    for (int q = 0; q <= s->limits->type; q++)
-        for (int x = 0; x < 2 && s->t->node[wire][q].n != NOTHING; x++) {
-            way[ways] = over(s, wire, p, q, x);
-            if (way[ways].count < top.m)
-                top.m = way[ways].count;
-            ways++;
+    for (int q = 0; q <= s->limits->type; q++) {
+        if (s->t->node[wire][q].n == NOTHING)
+            continue;
+        for (int x = 0; x < 2; x++) {
+            struct way way = toward(s, short_way[2 * q + x], p, q);
+            if (way.count < top.m) {
+                top.f[1] = way.count + 1 == top.m ? lower(top.f[0], way.load) : way.load;
+                top.f[0] = way.load;
+                top.m = way.count;
+            } else if (way.count == top.m) {
+                top.f[0] = lower(top.f[0], way.load);
+                top.f[1] = lower(top.f[1], way.load);
+            } else if (way.count == top.m + 1) {
+                top.f[1] = lower(top.f[1], way.load);
+            }
         }
-    for (int i = 0; i < ways; i++) {
-        if (way[i].count == top.m)
-            top.f[0] = lower(top.f[0], way[i].load);
-        if (way[i].count <= top.m + 1)
-            top.f[1] = lower(top.f[1], way[i].load);
     }
     top.f[2] = lower(top.f[0], s->limits->pin);
     if (s->limits->type == 0)
@@ -143,8 +155,12 @@ static void go_up(const struct solver *s)
             settle_sink(s, wire);
         else
             settle_branch(s, wire);
+        struct way way[4];
+        for (int q = 0; q <= s->limits->type; q++)
+            for (int x = 0; x < 2; x++)
+                way[2 * q + x] = shortest(s, wire, q, x);
         for (int p = 0; p <= s->limits->type; p++) {
-            settle_top(s, wire, p);
+            settle_top(s, wire, p, way);
             join(s, wire, p);
         }
         s->t->joined[s->net->parent[wire]].children++;
@@ -186,7 +202,7 @@ static struct way chosen(const struct solver *s, size_t wire, int p, uint32_t su
             const struct node *at = &s->t->node[wire][q];
             if (at->n == NOTHING)
                 continue;
-            way = over(s, wire, p, q, x);
+            way = toward(s, shortest(s, wire, q, x), p, q);
             *below = (struct share){(uint8_t)q, (uint8_t)(at->e + (uint32_t)x)};
             if (way.count <= top->m + surplus && way.load == top->f[surplus])
                 return way;

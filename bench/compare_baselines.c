@@ -1,9 +1,10 @@
 /* The plain C in this folder against the tests' references, on random nets, placements and
    files from a fixed seed.
 
-     compare_baselines [NETS]           three times 20,000 unless said */
+     compare_baselines [NETS]           three times 20,000 and 2,000 larger ones unless said */
 #include "../tests/random_nets.h"
 #include "baseline.h"
+#include "fig4.h"
 
 #include <inttypes.h>
 #include <stdio.h>
@@ -49,6 +50,20 @@ static void try_solver(struct ref_net *net)
     if (answer.number == 0 && least > 0
         && c_solve(&limits, &columns, NULL, NULL, (size_t)least - 1).number != 9)
         fail("solver's room", net);
+}
+
+/* One label a polarity gives a legal placement's count: never below the least. */
+static void try_one_label(struct ref_net *net, long *worse)
+{
+    struct limits limits = limits_of(net);
+    struct columns columns = columns_of(net);
+    int64_t least = ref_least_frontier(net, NULL);
+    if (limits.type == 0)
+        return;
+    uint64_t count = one_label_count(&limits, &columns);
+    if (count < (uint64_t)least)
+        fail("one label", net);
+    *worse += count > (uint64_t)least;
 }
 
 static void try_checker(struct ref_net *net, const struct ref_placement *p)
@@ -107,16 +122,17 @@ static void try_reader(struct chance *chance, const struct ref_net *net)
 
 static void run(struct chance *chance, struct size size, long nets)
 {
-    long legal = 0;
+    long legal = 0, worse = 0;
     for (long i = 0; i < nets; i++) {
         static struct ref_net net;
         random_net(chance, &net, size);
         try_solver(&net);
+        try_one_label(&net, &worse);
         try_placements(chance, &net, &legal);
         try_reader(chance, &net);
     }
-    printf("%ld nets of up to %u wires, %ld with a legal placement: same answers\n", nets,
-           size.wires, legal);
+    printf("%ld nets of up to %u wires, %ld with a legal placement: same answers; "
+           "one label a polarity does not do for %ld\n", nets, size.wires, legal, worse);
 }
 
 int main(int count, char **word)
