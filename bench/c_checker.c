@@ -29,27 +29,18 @@ static struct answer judge_parity(const struct columns *net, uint32_t *inverters
     return (struct answer){0, entries};
 }
 
-struct answer c_check(const struct limits *limits, const struct columns *net,
-                      const uint16_t *wire, const uint32_t *offset, size_t entries,
-                      uint64_t *source)
+/* The first entry that drives more than C_U, `entries` for the source, one more for none.
+   on[i] entries stand on wire i; *source gets what lies below the source. */
+static size_t first_over(const struct limits *limits, const struct columns *net,
+                         const uint32_t *on, const uint32_t *offset, size_t entries,
+                         uint64_t *source)
 {
     uint64_t below[PLACES];
-    uint32_t inverters[PLACES] = {0};
-    struct answer judged = c_judge(limits, net);
-    if (judged.number != 0)
-        return judged;
-    if (entries > ENTRIES)
-        return (struct answer){7, 0};
-    for (size_t entry = 0; entry < entries; entry++) {
-        if (misplaced(net, wire, offset, entry))
-            return (struct answer){10, entry};
-        inverters[wire[entry]]++;
-    }
+    size_t end = entries, over = entries + 1;
     for (size_t node = 0; node < net->places; node++)
         below[node] = net->pin[node];
-    size_t end = entries, over = entries + 1;
     for (size_t node = net->places - 1; node > 0; node--) {
-        size_t start = end - inverters[node];
+        size_t start = end - on[node];
         uint64_t load = below[node];
         uint32_t from = 0;
         for (size_t entry = start; entry < end; entry++) {
@@ -62,14 +53,33 @@ struct answer c_check(const struct limits *limits, const struct columns *net,
         below[net->parent[node]] += net->wire[node] - from + load;
         end = start;
     }
-    if (over > entries && below[0] > limits->limit)
-        over = entries;
+    *source = below[0];
+    return over > entries && below[0] > limits->limit ? entries : over;
+}
+
+struct answer c_check(const struct limits *limits, const struct columns *net,
+                      const uint16_t *wire, const uint32_t *offset, size_t entries,
+                      uint64_t *source)
+{
+    uint32_t on[PLACES] = {0};
+    uint64_t load;
+    struct answer answer = c_judge(limits, net);
+    if (answer.number != 0)
+        return answer;
+    if (entries > ENTRIES)
+        return (struct answer){7, 0};
+    for (size_t entry = 0; entry < entries; entry++) {
+        if (misplaced(net, wire, offset, entry))
+            return (struct answer){10, entry};
+        on[wire[entry]]++;
+    }
+    size_t over = first_over(limits, net, on, offset, entries, &load);
     if (over <= entries)
         return (struct answer){11, over};
-    struct answer last = {0, entries};
+    answer = (struct answer){0, entries};
     if (limits->type == 1)
-        last = judge_parity(net, inverters, entries);
-    if (last.number == 0)
-        *source = below[0];
-    return last;
+        answer = judge_parity(net, on, entries);
+    if (answer.number == 0)
+        *source = load;
+    return answer;
 }

@@ -120,6 +120,26 @@ static void try_reader(struct chance *chance, const struct ref_net *net)
         same_columns(&want, &have);
 }
 
+/* C_U 1, C_b 0, 1,024 wires of 10,000,000: every unit of wire or pin but one wants its own
+   buffer, as each stage holds one unit. The answer has to come without a loop over them. */
+static void try_largest(struct chance *chance, enum shape shape)
+{
+    static struct ref_net net;
+    struct ref_limits limits = {.limit = 1, .pin = 0, .type = 0};
+    struct size size = {.wire = 0, .pin = 1};
+    random_shape(chance, &net, shape, 1024, limits, size);
+    uint64_t units = 0;
+    for (size_t node = 1; node < net.nodes; node++) {
+        net.wire[node] = 10000000;
+        units += net.wire[node] + (uint64_t)net.pin[node];
+    }
+    struct limits same = limits_of(&net);
+    struct columns columns = columns_of(&net);
+    struct answer answer = c_solve(&same, &columns, NULL, NULL, REF_ENTRIES);
+    if (answer.number != 9 || answer.place != units - 1)
+        fail("solver's largest count", &net);
+}
+
 static void run(struct chance *chance, struct size size, long nets)
 {
     long legal = 0, worse = 0;
@@ -139,6 +159,8 @@ int main(int count, char **word)
 {
     long nets = count > 1 ? atol(word[1]) : 20000;
     struct chance chance = {4711};
+    for (enum shape shape = CHAIN; shape < SHAPES; shape++)
+        try_largest(&chance, shape);
     run(&chance, (struct size){.wires = 6, .limit = 9, .wire = 4, .pin = 5}, nets);
     run(&chance, (struct size){.wires = 14, .limit = 40, .wire = 60, .pin = 15}, nets);
     run(&chance, (struct size){.wires = 14, .limit = 40, .wire = 6, .pin = 8}, nets);

@@ -189,14 +189,15 @@ static inline void random_entries(struct chance *chance, const struct ref_net *n
 
 /* ------------------------------------------------------------ damaged bytes */
 
-/* One byte changed, left out, put in, or all from it on. Answers the new length;
-   the buffer must have room for one byte more. */
+/* One byte changed, put in or left out; all from a byte on cut off; bytes put after the end; or
+   what stands before the end field shortened by a sink. Answers the new length: at most 3 more,
+   and the buffer must have room for them. */
 static inline size_t damage(struct chance *chance, uint8_t *bytes, size_t length)
 {
     static const uint8_t likely[] = {0, 1, 2, 3, 4, 8, 0x11, 0x12, 0x7F, 0x80, 0xFF};
     size_t at = length == 0 ? 0 : chance_upto(chance, (uint32_t)length - 1);
     uint8_t byte = likely[chance_upto(chance, sizeof likely - 1)];
-    switch (length == 0 ? 2 : chance_upto(chance, 4)) {
+    switch (length == 0 ? 4 : chance_upto(chance, 6)) {
     case 0:
         bytes[at] = byte;
         return length;
@@ -204,13 +205,20 @@ static inline size_t damage(struct chance *chance, uint8_t *bytes, size_t length
         bytes[at] ^= (uint8_t)(1u << chance_upto(chance, 7));
         return length;
     case 2:
-        at = length == at ? at : at + chance_upto(chance, 1);   /* before a byte or after it */
         memmove(bytes + at + 1, bytes + at, length - at);
         bytes[at] = byte;
         return length + 1;
     case 3:
         memmove(bytes + at, bytes + at + 1, length - at - 1);
         return length - 1;
+    case 4:
+        memset(bytes + length, byte, 3);
+        return length + 1 + chance_upto(chance, 2);
+    case 5:
+        if (length < 17)
+            return at;
+        memmove(bytes + length - 17, bytes + length - 3, 3);
+        return length - 14;
     default:
         return at;
     }
