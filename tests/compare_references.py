@@ -146,7 +146,7 @@ def broken_columns(chance, net):
     elif how == 2:
         limits = Limits(chance.choice((0, 1, 5, 1_000_001)), chance.randrange(4), chance.randrange(3))
     else:
-        value = chance.choice((0, 1, 2, 3, 4, 200, 1_000_001, 10_000_001))
+        value = chance.choice((0, 0, 1, 2, 3, 4, 200, 1_000_001, 10_000_001))
         most = (65536, 1 << 32, 256, 1 << 32, 256)[which]
         column[chance.randrange(len(column))] = value % most
     return Net(limits, *columns)
@@ -238,7 +238,7 @@ def stored_questions():
 def random_questions(chance, number):
     for _ in range(number):
         small = random_net(chance, 3, 9, 2, 4)
-        large = random_net(chance, 8, 25, 30, 20)
+        large = random_net(chance, 12, 25, 30, 20)
         light = random_net(chance, 7, 60, 6, 4)        # many placements on it are legal
         yield ask_least("least", small, ref.least_exhaustive)
         yield ask_least("frontier", large, ref.least_frontier)

@@ -614,9 +614,10 @@ static void along_wire(struct store *store, const struct ref_net *net, size_t wi
         pair.entries++;
         pair.count++;
         pair.load = size - top + pin;
-        if (every || pair.entries % 2 == parity)
+        bool fits = every || pair.entries % 2 == parity;
+        if (fits && pair.load <= limit)
             keep(store, pair);
-        done = top == size && (every || pair.entries % 2 == parity);
+        done = top == size && fits;
     }
 }
 
