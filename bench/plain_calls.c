@@ -1,5 +1,5 @@
-/* See c_calls.h. The plain C has columns of one length; other lengths are judged here. */
-#include "c_calls.h"
+/* See plain_calls.h. The plain C has columns of one length; other lengths are judged here. */
+#include "plain_calls.h"
 
 #include "baseline.h"
 
@@ -74,6 +74,6 @@ static struct ref_answer check(struct ref_limits limits, struct net_columns net,
     return turned(c_check(&l, &c, list.wire, list.offset, entries, source));
 }
 
-const struct calls c_calls = {
+const struct calls plain_calls = {
     .name = "plain C", .read_net = read_net, .judge = judge, .solve = solve, .check = check,
 };
