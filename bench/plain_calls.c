@@ -1,0 +1,79 @@
+/* See plain_calls.h. The plain C has columns of one length; other lengths are judged here. */
+#include "plain_calls.h"
+
+#include "baseline.h"
+
+static size_t lower(size_t a, size_t b)
+{
+    return a < b ? a : b;
+}
+
+static struct ref_answer turned(struct answer answer)
+{
+    return (struct ref_answer){answer.number, answer.place};
+}
+
+static struct limits limits_of(struct ref_limits limits)
+{
+    return (struct limits){limits.limit, limits.pin, limits.type};
+}
+
+static struct columns columns_of(struct net_columns c, size_t places)
+{
+    return (struct columns){places, c.parent, c.wire, c.kind, c.pin, c.polarity};
+}
+
+static size_t shortest(struct net_columns c)
+{
+    return lower(lower(lower(c.parents, c.wires), lower(c.kinds, c.pins)), c.polarities);
+}
+
+/* Unequal columns become empty ones: both are 7. */
+static struct columns judged_columns(struct net_columns c)
+{
+    bool equal = c.parents == c.wires && c.parents == c.kinds && c.parents == c.pins
+              && c.parents == c.polarities;
+    return columns_of(c, equal ? c.parents : 0);
+}
+
+static struct ref_answer read_net(const uint8_t *bytes, size_t length, struct ref_limits *limits,
+                                  struct net_columns to)
+{
+    struct columns room = columns_of(to, shortest(to));
+    struct limits read;
+    struct answer answer = c_read_net(bytes, length, &read, &room);
+    if (answer.number == 0) {
+        limits->limit = read.limit;
+        limits->pin = read.pin;
+        limits->type = read.type;
+    }
+    return turned(answer);
+}
+
+static struct ref_answer judge(struct ref_limits limits, struct net_columns net)
+{
+    struct limits l = limits_of(limits);
+    struct columns c = judged_columns(net);
+    return turned(c_judge(&l, &c));
+}
+
+static struct ref_answer solve(struct ref_limits limits, struct net_columns net,
+                               struct entry_columns to)
+{
+    struct limits l = limits_of(limits);
+    struct columns c = judged_columns(net);
+    return turned(c_solve(&l, &c, to.wire, to.offset, lower(to.wires, to.offsets)));
+}
+
+static struct ref_answer check(struct ref_limits limits, struct net_columns net,
+                               struct entry_columns list, uint64_t *source)
+{
+    struct limits l = limits_of(limits);
+    struct columns c = judged_columns(net);
+    size_t entries = list.wires == list.offsets ? list.wires : ENTRIES + 1;
+    return turned(c_check(&l, &c, list.wire, list.offset, entries, source));
+}
+
+const struct calls plain_calls = {
+    .name = "plain C", .read_net = read_net, .judge = judge, .solve = solve, .check = check,
+};

@@ -1,0 +1,298 @@
+"""reference.py against reference.c: every row of document 01's table, the stored damaged files,
+and random cases from a fixed seed.
+
+    python3 compare_references.py PROGRAM [HOW_MANY]
+
+PROGRAM is compare_references.c compiled with reference.c; where the machine cannot run it
+itself, RUN in the environment says what does. See README.md.
+"""
+import os
+import random
+import subprocess
+import sys
+from collections import Counter
+
+import make_damaged
+import reference as ref
+from reference import Limits, Net, Placement
+
+SEED = 416
+
+
+# ---------------------------------------------------------------- the table of document 01
+
+def net(nodes, limit=10, pin=2, kind=0):
+    columns = [list(column) for column in zip((0, 0, 0, 0, 0), *nodes)]
+    return Net(Limits(limit, pin, kind), *columns)
+
+
+def branch(parent, wire=0):
+    return parent, wire, 0, 0, 0
+
+
+def sink(parent, wire, pin, polarity=0):
+    return parent, wire, 1, pin, polarity
+
+
+NONE = -1
+FIFTEEN = net([sink(0, 15, 4)])
+TABLE = [
+    (net([sink(0, 6, 4)]), 0),
+    (net([sink(0, 7, 4)]), 1),
+    (net([sink(0, 14, 4)]), 1),
+    (FIFTEEN, 2),
+    (net([sink(0, 15, 4)], limit=11), 1),
+    (net([sink(0, 0, 10)]), 0),
+    (net([sink(0, 0, 11)]), NONE),
+    (net([sink(0, 0, 3)] * 5), 5),
+    (net([sink(0, 0, 3)] * 6), NONE),
+    (net([sink(0, 0, 7), sink(0, 0, 5)]), 1),
+    (net([sink(0, 0, 1), sink(0, 0, 1, 1)], kind=1), 1),
+    (net([sink(0, 0, 10, 1), sink(0, 0, 9)], kind=1), 3),
+    (net([branch(0), sink(0, 0, 6), sink(1, 0, 1, 1), sink(1, 0, 7)], kind=1), 2),
+    (net([sink(0, 1, 1, 1)], kind=1), 0),
+    # One label a polarity says 3 here; the answer is 2.
+    (net([branch(0), sink(0, 0, 4), branch(1), sink(1, 0, 1), sink(3, 0, 1, 1), sink(3, 0, 7)],
+         kind=1), 2),
+]
+
+
+def offsets_that_serve(one_wire):
+    """All offsets at which a single entry makes a net of one wire legal."""
+    return [o for o in range(one_wire.wire[1] + 1) if ref.legal(one_wire, Placement([1], [o]))]
+
+
+def table_holds():
+    """The table, by the Python reference alone; what the rows say of offsets too."""
+    for number, (row, least) in enumerate(TABLE):
+        found = ref.least_exhaustive(row)
+        assert (NONE if found is None else found) == least, number
+        assert ref.least_frontier(row) == found, number
+    assert offsets_that_serve(TABLE[1][0]) == list(range(0, 7))
+    assert offsets_that_serve(TABLE[2][0]) == [6]
+    carried = ref.carry(FIFTEEN, net([sink(0, 10, 4)]), Placement([1, 1], [6, 14]))
+    assert carried.offset == [6, 10]
+    two_on_one_wire = [(1, 1, 2), (1, 2, 2)]      # no other wires serve in the twelfth net
+    legal_with_three = {share for share in ((1, 1, 1), (1, 1, 2), (1, 2, 2), (2, 2, 2))
+                        if ref.legal(TABLE[11][0], Placement(list(share), [0, 0, 0]))}
+    assert legal_with_three <= set(two_on_one_wire) and legal_with_three
+
+
+# ---------------------------------------------------------------- random cases
+
+def random_net(chance, wires, limit, wire, pin):
+    """Any tree: a leaf is a sink, the rest branch points with at most eight children."""
+    parents, used = [], [0]
+    for node in range(1, chance.randint(1, wires) + 1):
+        open_nodes = [n for n in range(node) if parents.count(n) < 8]
+        shape = chance.randrange(3)
+        parents.append(open_nodes[0] if shape == 0 else
+                       open_nodes[-1] if shape == 1 else chance.choice(open_nodes))
+        used.append(node)
+    kind, c_u = chance.randrange(2), chance.randint(1, limit)
+    nodes = []
+    for node, parent in enumerate(parents, 1):
+        size = chance.randint(0, wire)
+        if node in parents:
+            nodes.append(branch(parent, size))
+        else:
+            nodes.append(sink(parent, size, chance.randint(0, pin), chance.randrange(kind + 1)))
+    return net(nodes, c_u, chance.randint(0, (c_u - 1) // 2), kind)
+
+
+def random_placement(chance, net):
+    entries = []
+    for _ in range(chance.choice((0, 1, 1, 2, 3, 5, 8))):
+        wire = chance.randrange(1, len(net.parent))
+        entries.append((wire, chance.randint(0, net.wire[wire])))
+    entries.sort()
+    if entries and chance.randrange(5) == 0:
+        place = chance.randrange(len(entries))
+        wire, offset = entries[place]
+        entries[place] = chance.choice(((wire, offset + 1), (wire + 1, offset),
+                                        (max(1, wire - 1), offset), (1, offset)))
+    return Placement([w for w, _ in entries], [o for _, o in entries])
+
+
+def eased(chance, net):
+    """A net that mostly eases the given one."""
+    limits = Limits(net.limits.limit + chance.randrange(3),
+                    max(0, net.limits.pin - chance.randrange(2)), net.limits.type)
+    wire = [max(0, w - chance.randrange(3)) for w in net.wire]
+    pin = [max(0, p - chance.randrange(2)) for p in net.pin]
+    polarity = list(net.polarity)
+    node = chance.randrange(1, len(wire))
+    spoil = chance.randrange(8)
+    if spoil == 0:
+        wire[node] = net.wire[node] + 1
+    if spoil == 1 and net.kind[node] == 1:
+        pin[node] = net.pin[node] + 1
+    if spoil == 2 and net.limits.type == 1 and net.kind[node] == 1:
+        polarity[node] ^= 1
+    if spoil == 3:
+        limits = Limits(max(1, net.limits.limit - 1), 0, net.limits.type)
+    return Net(limits, net.parent, wire, net.kind, pin, polarity)
+
+
+def broken_columns(chance, net):
+    """Columns with one value or one length changed."""
+    limits, columns = net.limits, [list(column) for column in net[1:]]
+    which, how = chance.randrange(5), chance.randrange(8)
+    column = columns[which]
+    if how == 0:
+        column.pop()
+    elif how == 1:
+        column.append(0)
+    elif how == 2:
+        limits = Limits(chance.choice((0, 1, 5, 1_000_001)), chance.randrange(4), chance.randrange(3))
+    else:
+        value = chance.choice((0, 0, 1, 2, 3, 4, 200, 1_000_001, 10_000_001))
+        most = (65536, 1 << 32, 256, 1 << 32, 256)[which]
+        column[chance.randrange(len(column))] = value % most
+    return Net(limits, *columns)
+
+
+def broken_net(chance, net):
+    """A net with one node's wire or parent out of range."""
+    wire, parent = list(net.wire), list(net.parent)
+    node = chance.randrange(1, len(wire))
+    if chance.randrange(2) == 0:
+        wire[node] = 10_000_001
+    else:
+        parent[node] = node + chance.randrange(2)
+    return Net(net.limits, parent, wire, net.kind, net.pin, net.polarity)
+
+
+# ---------------------------------------------------------------- questions and Python's answers
+
+def hexed(data):
+    return data.hex() or "-"
+
+
+def attempt(act):
+    try:
+        return act()
+    except ref.Refused as refusal:
+        named = {None: 0, "first": 1, "second": 2}[refusal.net]
+        return f"refused {refusal.number} place {refusal.place}", named
+
+
+def ask_read(word, data):
+    read = ref.read_net if word == "net" else ref.read_placement
+    return f"{word} {hexed(data)}", make_damaged.answer(read, data)
+
+
+def ask_check(net, placement):
+    def act():
+        ref.check(net, placement)
+        drives, source = ref.judge_placement(net, placement)
+        return " ".join(["count", str(len(drives)), "source", str(source), *map(str, drives)]), 0
+    question = f"check {hexed(ref.net_bytes(net))} {hexed(ref.placement_bytes(placement))}"
+    return question, attempt(act)[0]
+
+
+def ask_files(net_file, placement_file):
+    return (f"files {hexed(net_file)} {hexed(placement_file)}",
+            str(ref.check_files(net_file, placement_file)))
+
+
+def ask_carry(first, second, placement):
+    def act():
+        return ref.placement_bytes(ref.carry(first, second, placement)).hex(), None
+    answer, named = attempt(act)
+    files = (ref.net_bytes(first), ref.net_bytes(second), ref.placement_bytes(placement))
+    return ("carry " + " ".join(map(hexed, files)),
+            answer if named is None else f"net {named} {answer}")
+
+
+def ask_judge(net):
+    def act():
+        ref.judge_net(net)
+        return f"read {len(net.parent)}", 0
+    columns = [",".join(map(str, column)) or "-" for column in net[1:]]
+    return " ".join(["judge", *map(str, net.limits), *columns]), attempt(act)[0]
+
+
+def ask_least(word, net, least):
+    found = least(net)
+    found = NONE if found is None else found
+    return f"{word} {hexed(ref.net_bytes(net))}", f"{found} {found}"
+
+
+def table_questions():
+    for row, least in TABLE:
+        yield ask_least("least", row, ref.least_exhaustive)
+        yield ask_check(row, Placement([], []))
+        yield ask_judge(row)
+        for offset in range(row.wire[1] + 1):
+            yield ask_check(row, Placement([1], [offset]))
+    yield ask_carry(FIFTEEN, net([sink(0, 10, 4)]), Placement([1, 1], [6, 14]))
+
+
+def stored_questions():
+    for name, (make, _, _) in make_damaged.SETS.items():
+        for _, data in make_damaged.unlike(make()):
+            yield ask_read(name.split("_")[0], data)
+
+
+def random_questions(chance, number):
+    for _ in range(number):
+        small = random_net(chance, 3, 9, 2, 4)
+        large = random_net(chance, 12, 25, 30, 20)
+        light = random_net(chance, 7, 60, 6, 4)        # many placements on it are legal
+        yield ask_least("least", small, ref.least_exhaustive)
+        yield ask_least("frontier", large, ref.least_frontier)
+        yield ask_judge(broken_columns(chance, large))
+        for net in (small, large, light, light):
+            placement = random_placement(chance, net)
+            yield ask_check(net, placement)
+            yield ask_carry(net, eased(chance, net), placement)
+            yield from damaged_questions(chance, net, placement)
+        yield ask_carry(light, broken_net(chance, light), placement)
+        yield ask_carry(broken_net(chance, light), broken_net(chance, light), placement)
+
+
+def damaged_questions(chance, net, placement):
+    seed = chance.randrange(1 << 30)
+    net_file, placement_file = ref.net_bytes(net), ref.placement_bytes(placement)
+    _, bad_net = next(make_damaged.changed([net_file], seed, 1))
+    _, bad_placement = next(make_damaged.changed([placement_file], seed, 1))
+    yield ask_read("net", bad_net)
+    yield ask_read("placement", bad_placement)
+    yield ask_files(net_file, placement_file)
+    yield ask_files(bad_net, bad_placement)
+    yield ask_files(net_file, bad_placement)
+    yield f"rewrite {hexed(net_file)}", net_file.hex()
+    yield f"rewrite {hexed(placement_file)}", placement_file.hex()
+
+
+def print_kinds(asked):
+    """How often each question had each kind of answer."""
+    kinds = Counter((q.split()[0], " ".join(a.split()[:2]) if a[0] in "nr" else a[:5])
+                    for q, a in asked if q.split()[0] != "rewrite")
+    for (word, kind), number in sorted(kinds.items()):
+        print(f"  {word}: {kind}: {number}")
+
+
+def main():
+    program = sys.argv[1]
+    number = int(sys.argv[2]) if len(sys.argv) > 2 else 1500
+    table_holds()
+    asked = [*table_questions(), *stored_questions(),
+             *random_questions(random.Random(SEED), number)]
+    text = "".join(question + "\n" for question, _ in asked)
+    command = [*os.environ.get("RUN", "").split(), program]
+    done = subprocess.run(command, input=text, capture_output=True, text=True, check=True)
+    answers = done.stdout.splitlines()
+    assert len(answers) == len(asked), "the program stopped early"
+    for (question, python), c in zip(asked, answers):
+        if python != c:
+            sys.exit(f"{question}\n  Python: {python}\n  C:      {c}")
+    words = [question.split()[0] for question, _ in asked]
+    if "--answers" in sys.argv:
+        print_kinds(asked)
+    print("same answers:", ", ".join(f"{word} {words.count(word)}" for word in sorted(set(words))))
+
+
+if __name__ == "__main__":
+    main()
