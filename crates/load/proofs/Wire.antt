@@ -49,6 +49,12 @@ module _ {n : Net} {vs os first : List ℕ} (p : Placed n vs os first) where
     pub end-within : getD first (i + 1) 0 ≤ length os
     end-within = rw add-one end
 
+    pub begins-in-order : begin i ≤ getD first (i + 1) 0
+    begins-in-order = rw add-one rise
+
+    pub on-count : getD first (i + 1) 0 - begin i ≡ length (offsetsOn (entries vs os) i)
+    on-count = rw (add-one, on-wire, length-slice (begin i) (begin (suc i)) os end)
+
     pub last-fits : begin i < getD first (i + 1) 0 → getD os (getD first (i + 1) 0 - 1) 0 ≤ wire n i
     last-fits l =
         let u : begin i < begin (suc i) = rw add-one at l in

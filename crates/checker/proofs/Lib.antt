@@ -1,0 +1,6 @@
+-- What the proofs of several functions use.
+pub mod CheckedIsLegal
+pub mod Walks
+pub mod Inverters
+pub mod Standing
+pub mod Senses
