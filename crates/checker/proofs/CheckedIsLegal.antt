@@ -19,8 +19,9 @@ use Rattle.net.specs.Net.{Net, places, wire, kind}
 use Rattle.net.specs.Load.{entries, offsetsOn, drivers}
 use Rattle.net.specs.Legal.{Each, After, higher, further, Stands, InOrder, start, Sink, sense, OneSense, Legal}
 use Rattle.net.specs.Judge.{unless, thenJudge, judged}
-use Rattle.net.specs.Checked.{placementFits, onItsWire, notLower, placedFrom, withinLimit, firstSink, oneSenseFrom, oneSense, placementJudged, columnsJudged, checked}
+use Rattle.net.specs.Checked.{placementFits, onItsWire, notLower, placedFrom, withinLimit, firstSink, hasSense, oneSense, placementJudged, columnsJudged, checked}
 use Rattle.net.proofs.Tests.{never, both-met, both-true, unless-met, then-met}
+use Rattle.net.proofs.Each.{each-met, each-sound}
 use Rattle.checker.specs.Verdict.{LegalColumns}
 
 unless-true : {t : Bool} → t ≡ true → (r : Refusal) → unless t r ≡ Sound
@@ -82,27 +83,14 @@ each-within limit k (load ∷ loads) x = then-both (unless-true (le-leb load lim
 
 -- ---- 12
 module _ (n : Net) (offs : ℕ → List ℕ) where
-  senses-same : (s k i : ℕ) → oneSenseFrom n offs s k i ≡ Sound → (j : ℕ) → i ≤ j → j < i + k → kind n j ≡ 1 → sense n offs j ≡ s
-  unfolding oneSenseFrom
-  senses-same s zero i x j lo hi z = absurd (omega arith)
-  senses-same s (suc k) i x j lo hi z =
-      let (here, rest) = then-met (unless (pick (eqb (kind n i) 1) (eqb (sense n offs i) s) true) (WrongParity i)) (oneSenseFrom n offs s k (suc i)) x in
-      let met : pick (eqb (kind n i) 1) (eqb (sense n offs i) s) true ≡ true = unless-met _ (WrongParity i) here in
-      elim (ℕ-discrete j i) [
-        | yes q ↦ rw q (eqb-true (sense n offs i) s (rw (eq-eqb (kind n i) 1 (rw q at z)) at met))
-        | no q ↦ senses-same s k (suc i) rest j (omega arith) (omega arith) z
-      ]
+  sense-met : (s i : ℕ) → hasSense n offs s i ≡ Sound → kind n i ≡ 1 → sense n offs i ≡ s
+  sense-met s i x z = eqb-true (sense n offs i) s (rw (eq-eqb (kind n i) 1 z) at (unless-met (pick (eqb (kind n i) 1) (eqb (sense n offs i) s) true) (WrongParity i) x))
 
-  same-senses : (s k i : ℕ) → ((j : ℕ) → i ≤ j → j < i + k → kind n j ≡ 1 → sense n offs j ≡ s) → oneSenseFrom n offs s k i ≡ Sound
-  unfolding oneSenseFrom
-  same-senses s zero i h = refl
-  same-senses s (suc k) i h = then-both (unless-true here (WrongParity i)) (same-senses s k (suc i) (λ j lo hi z. h j (omega arith) (omega arith) z))
-    where
-      here : pick (eqb (kind n i) 1) (eqb (sense n offs i) s) true ≡ true
-      here = elim (ℕ-discrete (kind n i) 1) [
-        | yes q ↦ rw (eq-eqb (kind n i) 1 q) (eq-eqb (sense n offs i) s (h i (omega arith) (omega arith) q))
-        | no q ↦ rw (ne-eqb (kind n i) 1 q)
-      ]
+  sense-sound : (s i : ℕ) → (kind n i ≡ 1 → sense n offs i ≡ s) → hasSense n offs s i ≡ Sound
+  sense-sound s i h = elim (ℕ-discrete (kind n i) 1) [
+    | yes q ↦ rw (eq-eqb (kind n i) 1 q, eq-eqb (sense n offs i) s (h q))
+    | no q ↦ rw (ne-eqb (kind n i) 1 q)
+  ]
 
   -- where there is a sink among k nodes from i on, the first is one
   first-is-sink : (k i j : ℕ) → i ≤ j → j < i + k → kind n j ≡ 1 → (i ≤ firstSink n k i) × (firstSink n k i < i + k) × (kind n (firstSink n k i) ≡ 1)
@@ -117,21 +105,28 @@ module _ (n : Net) (offs : ℕ → List ℕ) where
           → (i ≤ firstSink n k (suc i)) × (firstSink n k (suc i) < i + suc k) × (kind n (firstSink n k (suc i)) ≡ 1)
       later (a, b, c) = (omega arith, omega arith, c)
 
+  abbrev lowest : ℕ
+  lowest = firstSink n (places n - 1) 1
+
   -- no sink at all
-  pub no-sinks : 1 ≤ places n → places n ≤ firstSink n (places n - 1) 1 → oneSense n offs ≡ Sound
-  no-sinks a b = same-senses (sense n offs (firstSink n (places n - 1) 1)) (places n - 1) 1 (λ j lo hi z. absurd (omega (arith, first-is-sink (places n - 1) 1 j lo hi z .1)))
+  pub no-sinks : 1 ≤ places n → places n ≤ lowest → oneSense n offs ≡ Sound
+  no-sinks a b =
+      each-sound (hasSense n offs (sense n offs lowest)) (places n - 1) 1
+      (λ j lo hi. sense-sound (sense n offs lowest) j (λ z. absurd (omega (arith, first-is-sink (places n - 1) 1 j lo hi z .1))))
 
   sense-one : oneSense n offs ≡ Sound → OneSense n offs
   sense-one x = record {
-    one = sense n offs (firstSink n (places n - 1) 1);
-    same = λ i s. senses-same _ (places n - 1) 1 x i (s .node) (omega (arith, s .within, s .node)) (s .sink);
+    one = sense n offs lowest;
+    same = λ i s. sense-met (sense n offs lowest) i (each-met (hasSense n offs (sense n offs lowest)) (places n - 1) 1 x i (s .node) (omega (arith, s .within, s .node))) (s .sink);
   }
 
   one-sense : OneSense n offs → oneSense n offs ≡ Sound
-  one-sense o =
-      same-senses (sense n offs (firstSink n (places n - 1) 1)) (places n - 1) 1
-      (λ j lo hi z. let (a, b, c) = first-is-sink (places n - 1) 1 j lo hi z in
-      o .same j (record { node = lo; within = omega arith; sink = z }) ∙ sym (o .same (firstSink n (places n - 1) 1) (record { node = a; within = omega arith; sink = c })))
+  one-sense o = each-sound (hasSense n offs (sense n offs lowest)) (places n - 1) 1 (λ j lo hi. sense-sound (sense n offs lowest) j (as-lowest j lo hi))
+    where
+      as-lowest : (j : ℕ) → 1 ≤ j → j < 1 + (places n - 1) → kind n j ≡ 1 → sense n offs j ≡ sense n offs lowest
+      as-lowest j lo hi z =
+          let (a, b, c) = first-is-sink (places n - 1) 1 j lo hi z in
+          o .same j (record { node = lo; within = omega arith; sink = z }) ∙ sym (o .same lowest (record { node = a; within = omega arith; sink = c }))
 
 -- ---- the whole
 pub judged-legal : (n : Net) (p : List Entry) → placementJudged n p ≡ Sound → Legal n p

@@ -12,14 +12,14 @@ use borrow.Author.Tests.{le-leb, lt-leb, eq-eqb, ne-eqb}
 use Rattle.net.specs.declared.Entry.{Entry}
 use Rattle.net.specs.declared.Judged.{Judged}
 use Rattle.net.specs.declared.Judged.the-variants.{Sound, Refused}
-use Rattle.net.specs.declared.Refusal.the-variants.{WrongColumns, Misplaced, Overloaded, WrongParity}
+use Rattle.net.specs.declared.Refusal.the-variants.{WrongColumns, Misplaced, Overloaded}
 use Rattle.net.specs.Figures.{mostEntries}
 use Rattle.net.specs.Choose.{pick, both}
 use Rattle.net.specs.Net.{Net, kind}
 use Rattle.net.specs.Load.{entries}
-use Rattle.net.specs.Legal.{start, sense}
+use Rattle.net.specs.Legal.{start}
 use Rattle.net.specs.Judge.{unless, thenJudge}
-use Rattle.net.specs.Checked.{onItsWire, notLower, placedFrom, withinLimit, firstSink, oneSenseFrom}
+use Rattle.net.specs.Checked.{onItsWire, notLower, placedFrom, withinLimit, firstSink}
 use Rattle.checker.specs.Stands.{stood}
 
 pub then-assoc : (a b c : Judged) → thenJudge (thenJudge a b) c ≡ thenJudge a (thenJudge b c)
@@ -122,20 +122,3 @@ module _ (n : Net) (m i : ℕ) where
   pub sink-none : m ≤ i → firstSink n (m - i) i ≡ i
   unfolding firstSink
   sink-none h = rw (left-none h)
-
-  module _ (offs : ℕ → List ℕ) (s : ℕ) where
-    pub sense-other : i < m → (kind n i ≡ 1 → ⊥) → oneSenseFrom n offs s (m - i) i ≡ oneSenseFrom n offs s (m - (i + 1)) (i + 1)
-    unfolding oneSenseFrom
-    sense-other h k = rw (left-on h, ne-eqb (kind n i) 1 k, add-one)
-
-    pub sense-next : i < m → kind n i ≡ 1 → sense n offs i ≡ s → oneSenseFrom n offs s (m - i) i ≡ oneSenseFrom n offs s (m - (i + 1)) (i + 1)
-    unfolding oneSenseFrom
-    sense-next h k e = rw (left-on h, eq-eqb (kind n i) 1 k, eq-eqb (sense n offs i) s e, add-one)
-
-    pub sense-stop : i < m → kind n i ≡ 1 → (sense n offs i ≡ s → ⊥) → oneSenseFrom n offs s (m - i) i ≡ Refused (WrongParity i)
-    unfolding oneSenseFrom
-    sense-stop h k e = rw (left-on h, eq-eqb (kind n i) 1 k, ne-eqb (sense n offs i) s e)
-
-    pub sense-end : m ≤ i → oneSenseFrom n offs s (m - i) i ≡ Sound
-    unfolding oneSenseFrom
-    sense-end h = rw (left-none h)

@@ -5,13 +5,10 @@ use mathlib.Core.Logic.{⊎-elim}
 use native.Mathlib.Omega.{arith}
 use lib.ListN.{length}
 use Rattle.net.specs.declared.Limits.{Limits}
-use Rattle.net.specs.Net.{Net, net, places, polarity}
+use Rattle.net.specs.Net.{net}
 use Rattle.net.specs.Load.{entries, offsetsOn}
-use Rattle.net.specs.Legal.{sense}
-use Rattle.net.specs.Checked.{firstSink, oneSense, oneSenseFrom}
 use Rattle.checker.specs.Parity.{Turned}
-use Rattle.checker.proofs.Senses.{sense-by, sum-most, none-to-judge, against-lowest}
-use Rattle.checker.proofs.Walks.{sense-other, sense-next, sense-stop, sense-end}
+use Rattle.checker.proofs.Senses.{Senses, senses-start, senses-other, senses-same, senses-differ, senses-end, sum-most, none-to-judge, against-lowest}
 use Rattle.checker.proofs.one_sense.Statement.{statement}
 use Rattle.checker.proofs.one_sense.Tie as tie
 
@@ -19,8 +16,7 @@ abbrev Inv-loop : tie.InvT-loop
 Inv-loop parent wire kind pin signs wires offsets odd lowest expected i₀ i =
     (1 ≤ i) × (i ≤ length kind)
     × ((limits : Limits) → Turned (net limits parent wire kind pin signs) (offsetsOn (entries wires offsets)) (length parent) odd
-    → oneSenseFrom (net limits parent wire kind pin signs) (offsetsOn (entries wires offsets)) expected (length kind - 1) 1
-    ≡ oneSenseFrom (net limits parent wire kind pin signs) (offsetsOn (entries wires offsets)) expected (length kind - i) i)
+    → Senses (net limits parent wire kind pin signs) (offsetsOn (entries wires offsets)) expected (length kind) i)
 
 abbrev μ-loop : tie.MeasureT-loop
 μ-loop parent wire kind pin signs wires offsets odd lowest expected i₀ i = length kind - i
@@ -41,7 +37,7 @@ add-expected : tie.Need-add-expected Inv-loop μ-loop
 add-expected c = omega (arith, sum-most (c .before .before .before .before .before .before .before .before .before .before .before .pre .0) (c .before .before .before .before .before .before .before .before .before .before .before .pre .1) (c .before .before .before .first-sink .result) (omega arith))
 
 loop-holds : tie.Need-loop-holds Inv-loop μ-loop
-loop-holds c = (omega arith, omega (arith, c .before .before .before .before .before .before .before .before .before .before .before .pre .0 .some, c .before .before .before .before .before .before .before .before .before .before .before .pre .0 .kinds-long), λ limits t. refl)
+loop-holds c = (omega arith, omega (arith, c .before .before .before .before .before .before .before .before .before .before .before .pre .0 .some, c .before .before .before .before .before .before .before .before .before .before .before .pre .0 .kinds-long), λ limits t. senses-start)
 
 shared-slice-read-if2 : tie.Need-shared-slice-read-if2 Inv-loop μ-loop
 shared-slice-read-if2 c = omega arith
@@ -59,8 +55,8 @@ returns-2 : tie.Need-returns-2 Inv-loop μ-loop
 returns-2 c =
     let l = c .before .before .before .before .before .before .loop in
     let t = c .before .before .before .before .before .before .before .before .before .before .before .before .before .before .before .before .before .before .pre .1 in
-    let w : l .i < length (c .before .before .before .before .before .before .before .before .before .before .before .before .before .before .before .before .before .before .args .parent .now) = omega (arith, c .before .before .before .before .before .before .before .before .before .before .before .before .before .before .before .before .before .before .pre .0 .kinds-long) in
-    sym (against-lowest (c .before .before .before .before .before .before .before .before .before .before .before .before .before .before .before .before .before .before .pre .0) (c .before .before .before .before .before .before .before .before .before .before .before .before .before .before .before .before .before .before .pre .1) (c .before .before .before .before .before .before .before .before .before .before .first-sink .result) (c .before .before .before .before .before .before .before .before .before .before .first-sink .ensures _ refl) (omega arith) ∙ l .inv .2 _ t ∙ sense-stop _ _ (l .i) _ _ (omega arith) (c .before .before .before .if2 .taken) (λ e. c .if3 .taken (sense-by t (l .i) w ∙ e)))
+    senses-differ t (l .inv .2 _ t) (omega arith) (omega (arith, c .before .before .before .before .before .before .before .before .before .before .before .before .before .before .before .before .before .before .pre .0 .kinds-long)) (c .before .before .before .if2 .taken) (c .if3 .taken)
+    ∙ sym (against-lowest (c .before .before .before .before .before .before .before .before .before .before .before .before .before .before .before .before .before .before .pre .0) (c .before .before .before .before .before .before .before .before .before .before .before .before .before .before .before .before .before .before .pre .1) (c .before .before .before .before .before .before .before .before .before .before .first-sink .result) (c .before .before .before .before .before .before .before .before .before .before .first-sink .ensures _ refl) (omega arith))
 
 add-i : tie.Need-add-i Inv-loop μ-loop
 add-i c = omega arith
@@ -73,18 +69,17 @@ loop-again c = (
   omega arith,
   omega arith,
   λ limits t.
-      let l = c .before .before .before .loop in
-      let w : l .i < length (c .before .before .before .before .before .before .before .before .before .before .before .before .before .before .before .args .parent .now) = omega (arith, c .before .before .before .before .before .before .before .before .before .before .before .before .before .before .before .pre .0 .kinds-long) in
-      l .inv .2 limits t ∙ ⊎-elim
-      (λ a. sense-next _ _ (l .i) _ _ (omega arith) (a .0 .taken) (sym (sense-by t (l .i) w) ∙ a .3 .left))
-      (λ a. sense-other _ _ (l .i) _ _ (omega arith) (a .left))
+      let g = c .before .before .before .loop .inv .2 limits t in
+      ⊎-elim
+      (λ a. senses-same t g (omega arith) (omega (arith, c .before .before .before .before .before .before .before .before .before .before .before .before .before .before .before .pre .0 .kinds-long)) (a .0 .taken) (a .3 .left))
+      (λ a. senses-other t g (omega arith) (a .left))
       (c .if2 .came),
 )
 
 returns-3 : tie.Need-returns-3 Inv-loop μ-loop
 returns-3 c =
-    let l = c .before .loop in
-    sym (against-lowest (c .before .before .before .before .before .before .before .before .before .before .before .before .before .pre .0) (c .before .before .before .before .before .before .before .before .before .before .before .before .before .pre .1) (c .before .before .before .before .before .first-sink .result) (c .before .before .before .before .before .first-sink .ensures _ refl) (omega arith) ∙ l .inv .2 _ (c .before .before .before .before .before .before .before .before .before .before .before .before .before .pre .1) ∙ sense-end _ _ (l .i) _ _ (omega arith))
+    let t = c .before .before .before .before .before .before .before .before .before .before .before .before .before .pre .1 in
+    senses-end t (c .before .loop .inv .2 _ t) (omega arith) (omega arith) ∙ sym (against-lowest (c .before .before .before .before .before .before .before .before .before .before .before .before .before .pre .0) (c .before .before .before .before .before .before .before .before .before .before .before .before .before .pre .1) (c .before .before .before .before .before .first-sink .result) (c .before .before .before .before .before .first-sink .ensures _ refl) (omega arith))
 
 pub one-sense-spec : {M : Type 1} → statement M
 one-sense-spec =
