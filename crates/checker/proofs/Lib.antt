@@ -4,3 +4,5 @@ pub mod Walks
 pub mod Inverters
 pub mod Standing
 pub mod Senses
+pub mod Weighing
+pub mod Filled

@@ -1,3 +1,4 @@
 pub mod Verdict
 pub mod Stands
 pub mod Parity
+pub mod Listing

@@ -7,16 +7,24 @@ use lib.ListN.{length}
 use Rattle.net.specs.declared.Judged.{Judged}
 use Rattle.net.specs.declared.Judged.the-variants.{Sound, Refused}
 use Rattle.net.specs.Net.{Net}
-use Rattle.net.specs.Load.{entries, offsetsOn, sourceDrives}
+use Rattle.net.specs.Load.{entries, offsetsOn, sourceDrives, drivers}
 use Rattle.net.specs.Legal.{Legal}
-use Rattle.net.specs.Judge.{judged}
-use Rattle.net.specs.Checked.{placementFits, checked}
+use Rattle.net.specs.Judge.{thenJudge, judged}
+use Rattle.net.specs.Checked.{placementFits, withinLimit, oneSense, checked}
 use Rattle.checker.specs.declared.Verdict.{Verdict}
 use Rattle.checker.specs.declared.Verdict.the-variants as verdicts
 
 abbrev pub verdictOf : Judged → ℕ → ℕ → Verdict
 verdictOf Sound count source = verdicts.Legal count source
 verdictOf (Refused r) count source = verdicts.Refused r
+
+-- 11 and then 12, for a placement that stands on a sound net
+abbrev pub weighed : Net → List ℕ → List ℕ → Verdict
+weighed n vs os =
+    verdictOf
+    (thenJudge (withinLimit (n .limits .limit) 0 (drivers n (entries vs os))) (oneSense n (offsetsOn (entries vs os))))
+    (length vs)
+    (sourceDrives n (offsetsOn (entries vs os)))
 
 -- what the checker answers
 abbrev pub verdict : Net → List ℕ → List ℕ → Verdict

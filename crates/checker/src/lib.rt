@@ -6,15 +6,16 @@ use net::Refusal;
 ghost use mathlib.Core.Path.{_≡_};
 ghost use Prim.Native.Nat.{suc, _+_, _*_, _%_, _-_, _≤_};
 ghost use lib.ListN.{length};
+ghost use lib.Seq.{sets};
 ghost use Rattle.net.specs.Figures.{mostPlaces};
 ghost use Rattle.net.specs.Choose.{both};
 ghost use Rattle.net.specs.Net.{Net, netAt, places};
-ghost use Rattle.net.specs.Load.{entries, offsetsOn, driven, sourceDrives};
+ghost use Rattle.net.specs.Load.{driven};
 ghost use Rattle.net.specs.Sound.{SoundNet};
-ghost use Rattle.net.specs.Judge.{thenJudge};
 ghost use Rattle.net.specs.Checked.{onItsWire, notLower, withinLimit, firstSink, oneSense};
 ghost use Rattle.load.specs.Asks.{offsetsAt, Placed};
-ghost use Rattle.checker.specs.Verdict.{verdictOf, verdict};
+ghost use Rattle.checker.specs.Verdict.{weighed, verdict};
+ghost use Rattle.checker.specs.Listing.{ListedIs};
 ghost use Rattle.checker.specs.Stands.{stood, Stood, HasWires};
 ghost use Rattle.checker.specs.Parity.{Turned};
 
@@ -206,4 +207,206 @@ fn one_sense(
         i += 1;
     }
     Judged::Sound
+}
+
+// 11 and 12 for a placement that stands on a sound net.
+fn weigh(
+    limits: Limits,
+    parent: &[u16],
+    wire: &[u32],
+    kind: &[u8],
+    pin: &[u32],
+    polarity: &[u8],
+    wires: &[u16],
+    offsets: &[u32],
+) -> Verdict
+    requires { ⌜ Stood (netAt limits parent wire kind pin polarity) (now wires) (now offsets) ⌝ }
+    ensures { λ r. ⌜ r ≡ weighed (netAt limits (parent .entry) (wire .entry) (kind .entry) (pin .entry) (polarity .entry)) (now (wires .entry)) (now (offsets .entry)) ⌝ }
+{
+    let mut first = [0usize; load::FIRSTS];
+    load::first_entries(wires, parent.len(), &mut first);
+    let loads = entries_within_limit(
+        limits,
+        parent,
+        wire,
+        kind,
+        pin,
+        polarity,
+        wires,
+        offsets,
+        &first,
+    );
+    if let Judged::Refused(r) = loads {
+        return Verdict::Refused(r);
+    }
+    let source = load::load_below(
+        limits,
+        parent,
+        wire,
+        kind,
+        pin,
+        polarity,
+        wires,
+        offsets,
+        &first,
+        0,
+    );
+    if (limits.limit as u64) < source {
+        return Verdict::Refused(Refusal::Overloaded(wires.len()));
+    }
+    let mut odd = [0u8; PLACES];
+    turns(
+        limits,
+        parent,
+        wire,
+        kind,
+        pin,
+        polarity,
+        wires,
+        offsets,
+        &first,
+        &mut odd,
+    );
+    let senses = one_sense(
+        limits,
+        parent,
+        wire,
+        kind,
+        pin,
+        polarity,
+        wires,
+        offsets,
+        &odd,
+    );
+    if let Judged::Refused(r) = senses {
+        return Verdict::Refused(r);
+    }
+    Verdict::Legal {
+        count: wires.len(),
+        source: source,
+    }
+}
+
+// Judges a placement: the net's refusals, 7, 10, 11, 12, or its count and the source's load.
+pub fn check(
+    limits: Limits,
+    parent: &[u16],
+    wire: &[u32],
+    kind: &[u8],
+    pin: &[u32],
+    polarity: &[u8],
+    wires: &[u16],
+    offsets: &[u32],
+) -> Verdict
+    ensures { λ r. ⌜ r ≡ verdict (netAt limits (parent .entry) (wire .entry) (kind .entry) (pin .entry) (polarity .entry)) (now (wires .entry)) (now (offsets .entry)) ⌝ }
+{
+    let judged = net::judge(limits, parent, wire, kind, pin, polarity);
+    if let Judged::Refused(r) = judged {
+        return Verdict::Refused(r);
+    }
+    let stands = entries_stand(wire, wires, offsets);
+    if let Judged::Refused(r) = stands {
+        return Verdict::Refused(r);
+    }
+    weigh(limits, parent, wire, kind, pin, polarity, wires, offsets)
+}
+
+// What each entry drives, in list order, into a column that has room.
+fn fill_drives(
+    limits: Limits,
+    parent: &[u16],
+    wire: &[u32],
+    kind: &[u8],
+    pin: &[u32],
+    polarity: &[u8],
+    wires: &[u16],
+    offsets: &[u32],
+    first: &[usize; load::FIRSTS],
+    out: &mut [u64],
+)
+    requires { ⌜ Placed (netAt limits parent wire kind pin polarity) (now wires) (now offsets) (now first) ⌝ }
+    requires { ⌜ length (now wires) ≤ length (now out) ⌝ }
+    ensures { λ _. ⌜ now (out .exit) ≡ sets (now (out .entry)) 0 (driven (netAt limits (parent .entry) (wire .entry) (kind .entry) (pin .entry) (polarity .entry)) (offsetsAt (wires .entry) (offsets .entry))) ⌝ }
+{
+    let mut k = 0;
+    while k < wires.len() {
+        let load = load::drives(
+            limits,
+            parent,
+            wire,
+            kind,
+            pin,
+            polarity,
+            wires,
+            offsets,
+            first,
+            k,
+        );
+        out[k] = load;
+        k += 1;
+    }
+}
+
+// What the list of loads says.
+pub enum Listed {
+    Driven { count: usize, source: u64 },
+    Refused(Refusal),
+}
+
+// Lists what each entry drives, in list order, and the source's load: the net's refusals, 7, 10, 9. An overloaded placement is listed too.
+pub fn list_drives(
+    limits: Limits,
+    parent: &[u16],
+    wire: &[u32],
+    kind: &[u8],
+    pin: &[u32],
+    polarity: &[u8],
+    wires: &[u16],
+    offsets: &[u32],
+    out: &mut [u64],
+) -> Listed
+    ensures { λ r. ⌜ ListedIs (netAt limits (parent .entry) (wire .entry) (kind .entry) (pin .entry) (polarity .entry)) (now (wires .entry)) (now (offsets .entry)) (now (out .entry)) r (now (out .exit)) ⌝ }
+{
+    let judged = net::judge(limits, parent, wire, kind, pin, polarity);
+    if let Judged::Refused(r) = judged {
+        return Listed::Refused(r);
+    }
+    let stands = entries_stand(wire, wires, offsets);
+    if let Judged::Refused(r) = stands {
+        return Listed::Refused(r);
+    }
+    let count = wires.len();
+    if out.len() < count {
+        return Listed::Refused(Refusal::NoRoom(count as u64));
+    }
+    let mut first = [0usize; load::FIRSTS];
+    load::first_entries(wires, parent.len(), &mut first);
+    fill_drives(
+        limits,
+        parent,
+        wire,
+        kind,
+        pin,
+        polarity,
+        wires,
+        offsets,
+        &first,
+        out,
+    );
+    let source = load::load_below(
+        limits,
+        parent,
+        wire,
+        kind,
+        pin,
+        polarity,
+        wires,
+        offsets,
+        &first,
+        0,
+    );
+    Listed::Driven {
+        count: count,
+        source: source,
+    }
 }
