@@ -28,22 +28,35 @@ use Rattle.load.proofs.Order.{rising}
 use Rattle.load.proofs.Wire.{driven-length}
 use Rattle.checker.specs.declared.Verdict.{Verdict}
 use Rattle.checker.specs.declared.Listed.{Listed}
-use Rattle.checker.specs.Stands.{stood, Stood, HasWires}
+use Rattle.checker.specs.Stands.{stood, begun, Stood, HasWires}
 use Rattle.checker.specs.Verdict.{verdictOf, weighed, verdict}
-use Rattle.checker.specs.Listing.{listJudged, listedOf, columnAfter, ListedIs}
+use Rattle.checker.specs.Listing.{ListedIs}
 use Rattle.checker.proofs.CheckedIsLegal.{placed-order}
 use Rattle.checker.proofs.Walks.{then-assoc, within-both}
 
--- ---- a placement that stands
+-- ---- a placement that stands on a sound net
+
+module _ (n : Net) (vs os : List ℕ) where
+  -- the net's judgement comes first
+  pub net-first : (a : Judged) → a ≡ judged n → (r : Refusal) → a ≡ Refused r → a ≡ begun n vs os
+  net-first a ea r e = rw (← ea, e)
+
+  module _ (a : Judged) (ea : a ≡ judged n) (sa : a ≡ Sound) where
+    pub sound-net : SoundNet n
+    sound-net = sound-says n (sym ea ∙ sa)
+
+    pub then-stood : (b : Judged) → b ≡ stood n vs os → b ≡ begun n vs os
+    then-stood b eb = rw (← ea, sa) eb
+
+  pub begun-says : (b : Judged) → b ≡ begun n vs os → b ≡ Sound → Stood n vs os
+  begun-says b eb sb =
+      let (s, x) = then-met (judged n) (stood n vs os) (sym eb ∙ sb) in
+      let (a, p) = then-met (unless (placementFits vs os) WrongColumns) (placedFrom n start 0 (entries vs os)) x in
+      let (e, l) = both-met (eqb (length os) (length vs)) (leb (length vs) mostEntries) (unless-met (placementFits vs os) WrongColumns a) in
+      record { sound = sound-says n s; even = eqb-true (length os) (length vs) e; order = placed-order n start 0 (entries vs os) p }
 
 pub has-wires : {n : Net} → SoundNet n → HasWires n (n .wires)
 has-wires s = record { column = refl; long = s .wires-long }
-
-pub stood-says : {n : Net} → SoundNet n → (vs os : List ℕ) → stood n vs os ≡ Sound → Stood n vs os
-stood-says {n} s vs os x =
-    let (a, b) = then-met (unless (placementFits vs os) WrongColumns) (placedFrom n start 0 (entries vs os)) x in
-    let (e, l) = both-met (eqb (length os) (length vs)) (leb (length vs) mostEntries) (unless-met (placementFits vs os) WrongColumns a) in
-    record { sound = s; even = eqb-true (length os) (length vs) e; order = placed-order n start 0 (entries vs os) b }
 
 module _ {n : Net} {vs os : List ℕ} (s : Stood n vs os) where
   pub stood-rising : Rising vs
@@ -76,41 +89,28 @@ module _ {n : Net} {vs os first : List ℕ} (p : Placed n vs os first) (a : Judg
       all-legal e = sym (parts ∙ rw (sa, ← ex, le-leb x (n .limits .limit) l, ← eb, e))
 
 -- ---- the whole
-module _ (n : Net) (vs os : List ℕ) (a : Judged) (ea : a ≡ judged n) where
-  whole : checked n vs os ≡ thenJudge a (thenJudge (stood n vs os) (thenJudge (withinLimit (n .limits .limit) 0 (drivers n (entries vs os))) (oneSense n (offsetsOn (entries vs os)))))
+module _ (n : Net) (vs os : List ℕ) (b : Judged) (eb : b ≡ begun n vs os) where
+  whole : checked n vs os ≡ thenJudge b (thenJudge (withinLimit (n .limits .limit) 0 (drivers n (entries vs os))) (oneSense n (offsetsOn (entries vs os))))
   unfolding checked placementJudged
-  whole = rw (ea, then-assoc (unless (placementFits vs os) WrongColumns) (placedFrom n start 0 (entries vs os)) (thenJudge (withinLimit (n .limits .limit) 0 (drivers n (entries vs os))) (oneSense n (offsetsOn (entries vs os)))))
+  whole =
+      let last : Judged = thenJudge (withinLimit (n .limits .limit) 0 (drivers n (entries vs os))) (oneSense n (offsetsOn (entries vs os))) in
+      rw (eb, then-assoc (judged n) (stood n vs os) last, then-assoc (unless (placementFits vs os) WrongColumns) (placedFrom n start 0 (entries vs os)) last)
 
-  pub net-refused : (r : Refusal) → a ≡ Refused r → Verdict.Refused r ≡ verdict n vs os
-  net-refused r e = rw (whole, e)
+  pub begun-refused : (r : Refusal) → b ≡ Refused r → Verdict.Refused r ≡ verdict n vs os
+  begun-refused r e = rw (whole, e)
 
-  pub list-net-refused : (before : List ℕ) (r : Refusal) → a ≡ Refused r → ListedIs n vs os before (Listed.Refused r) before
-  list-net-refused before r e = record { answer = rw (← ea, e); column = rw (← ea, e) }
+  pub weighed-last : b ≡ Sound → weighed n vs os ≡ verdict n vs os
+  weighed-last e = rw (whole, e)
 
-  module _ (sa : a ≡ Sound) where
-    pub sound : SoundNet n
-    sound = sound-says n (sym ea ∙ sa)
+  pub list-refused : (before : List ℕ) (r : Refusal) → b ≡ Refused r → ListedIs n vs os before (Listed.Refused r) before
+  list-refused before r e = record { answer = rw (← eb, e); column = rw (← eb, e) }
 
-    module _ (b : Judged) (eb : b ≡ stood n vs os) where
-      pub stand-refused : (r : Refusal) → b ≡ Refused r → Verdict.Refused r ≡ verdict n vs os
-      stand-refused r e = rw (whole, sa, ← eb, e)
+  pub list-no-room : b ≡ Sound → (before : List ℕ) → length before < length vs → ListedIs n vs os before (Listed.Refused (NoRoom (length vs))) before
+  list-no-room e before l = record { answer = rw (← eb, e, lt-leb (length vs) (length before) l); column = rw (← eb, e, lt-leb (length vs) (length before) l) }
 
-      pub list-stand-refused : (before : List ℕ) (r : Refusal) → b ≡ Refused r → ListedIs n vs os before (Listed.Refused r) before
-      list-stand-refused before r e = record { answer = rw (← ea, sa, ← eb, e); column = rw (← ea, sa, ← eb, e) }
-
-      module _ (sb : b ≡ Sound) where
-        pub stands : Stood n vs os
-        stands = stood-says sound vs os (sym eb ∙ sb)
-
-        pub weighed-last : weighed n vs os ≡ verdict n vs os
-        weighed-last = rw (whole, sa, ← eb, sb)
-
-        pub list-no-room : (before : List ℕ) → length before < length vs → ListedIs n vs os before (Listed.Refused (NoRoom (length vs))) before
-        list-no-room before l = record { answer = rw (← ea, sa, ← eb, sb, lt-leb (length vs) (length before) l); column = rw (← ea, sa, ← eb, sb, lt-leb (length vs) (length before) l) }
-
-        pub listed : (before after : List ℕ) (x : ℕ) → length vs ≤ length before → after ≡ sets before 0 (driven n (offsetsOn (entries vs os))) → x ≡ loadBelow n (offsetsOn (entries vs os)) 0
-            → ListedIs n vs os before (Listed.Driven (length vs) x) after
-        listed before after x l c ex = record {
-          answer = rw (← ea, sa, ← eb, sb, le-leb (length vs) (length before) l, ← ex);
-          column = rw (← ea, sa, ← eb, sb, le-leb (length vs) (length before) l) c;
-        }
+  pub listed : b ≡ Sound → (before after : List ℕ) (x : ℕ) → length vs ≤ length before → after ≡ sets before 0 (driven n (offsetsOn (entries vs os))) → x ≡ loadBelow n (offsetsOn (entries vs os)) 0
+      → ListedIs n vs os before (Listed.Driven (length vs) x) after
+  listed e before after x l c ex = record {
+    answer = rw (← eb, e, le-leb (length vs) (length before) l, ← ex);
+    column = rw (← eb, e, le-leb (length vs) (length before) l) c;
+  }

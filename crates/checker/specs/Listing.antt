@@ -10,13 +10,13 @@ use Rattle.net.specs.declared.Judged.the-variants.{Sound, Refused}
 use Rattle.net.specs.declared.Refusal.the-variants.{NoRoom}
 use Rattle.net.specs.Net.{Net}
 use Rattle.net.specs.Load.{entries, offsetsOn, driven, sourceDrives}
-use Rattle.net.specs.Judge.{unless, thenJudge, judged}
-use Rattle.checker.specs.Stands.{stood}
+use Rattle.net.specs.Judge.{unless, thenJudge}
+use Rattle.checker.specs.Stands.{begun}
 use Rattle.checker.specs.declared.Listed.{Listed}
 use Rattle.checker.specs.declared.Listed.the-variants as lists
 
 abbrev pub listJudged : Net → List ℕ → List ℕ → ℕ → Judged
-listJudged n vs os room = thenJudge (judged n) (thenJudge (stood n vs os) (unless (leb (length vs) room) (NoRoom (length vs))))
+listJudged n vs os room = thenJudge (begun n vs os) (unless (leb (length vs) room) (NoRoom (length vs)))
 
 abbrev pub listedOf : Judged → ℕ → ℕ → Listed
 listedOf Sound count source = lists.Driven count source

@@ -9,13 +9,17 @@ use Rattle.net.specs.Net.{Net, places}
 use Rattle.net.specs.Load.{entries}
 use Rattle.net.specs.Legal.{InOrder, start}
 use Rattle.net.specs.Sound.{SoundNet}
-use Rattle.net.specs.Judge.{unless, thenJudge}
+use Rattle.net.specs.Judge.{unless, thenJudge, judged}
 use Rattle.net.specs.Checked.{placementFits, placedFrom}
 
 abbrev pub stood : Net → List ℕ → List ℕ → Judged
 stood n vs os = thenJudge (unless (placementFits vs os) WrongColumns) (placedFrom n start 0 (entries vs os))
 
--- what is known once neither is given
+-- after the net's own refusals
+abbrev pub begun : Net → List ℕ → List ℕ → Judged
+begun n vs os = thenJudge (judged n) (stood n vs os)
+
+-- what is known once none of these is given
 pub record Stood (n : Net) (vs os : List ℕ) : Type 0 where
   pub sound : SoundNet n
   pub even : length os ≡ length vs

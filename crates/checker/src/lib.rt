@@ -16,7 +16,7 @@ ghost use Rattle.net.specs.Checked.{onItsWire, notLower, withinLimit, firstSink
 ghost use Rattle.load.specs.Asks.{offsetsAt, Placed};
 ghost use Rattle.checker.specs.Verdict.{weighed, verdict};
 ghost use Rattle.checker.specs.Listing.{ListedIs};
-ghost use Rattle.checker.specs.Stands.{stood, Stood, HasWires};
+ghost use Rattle.checker.specs.Stands.{stood, begun, Stood, HasWires};
 ghost use Rattle.checker.specs.Parity.{Turned};
 
 // The places of a table over nodes.
@@ -80,6 +80,26 @@ fn entries_stand(wire: &[u32], wires: &[u16], offsets: &[u32]) -> Judged
         k += 1;
     }
     Judged::Sound
+}
+
+// What every call on a placement begins with: the net's refusals, then 7 and 10.
+fn begin(
+    limits: Limits,
+    parent: &[u16],
+    wire: &[u32],
+    kind: &[u8],
+    pin: &[u32],
+    polarity: &[u8],
+    wires: &[u16],
+    offsets: &[u32],
+) -> Judged
+    ensures { λ r. ⌜ r ≡ begun (netAt limits (parent .entry) (wire .entry) (kind .entry) (pin .entry) (polarity .entry)) (now (wires .entry)) (now (offsets .entry)) ⌝ }
+{
+    let judged = net::judge(limits, parent, wire, kind, pin, polarity);
+    if let Judged::Refused(_) = judged {
+        return judged;
+    }
+    entries_stand(wire, wires, offsets)
 }
 
 // 11 for the entries.
@@ -300,12 +320,8 @@ pub fn check(
 ) -> Verdict
     ensures { λ r. ⌜ r ≡ verdict (netAt limits (parent .entry) (wire .entry) (kind .entry) (pin .entry) (polarity .entry)) (now (wires .entry)) (now (offsets .entry)) ⌝ }
 {
-    let judged = net::judge(limits, parent, wire, kind, pin, polarity);
-    if let Judged::Refused(r) = judged {
-        return Verdict::Refused(r);
-    }
-    let stands = entries_stand(wire, wires, offsets);
-    if let Judged::Refused(r) = stands {
+    let begun = begin(limits, parent, wire, kind, pin, polarity, wires, offsets);
+    if let Judged::Refused(r) = begun {
         return Verdict::Refused(r);
     }
     weigh(limits, parent, wire, kind, pin, polarity, wires, offsets)
@@ -367,12 +383,8 @@ pub fn list_drives(
 ) -> Listed
     ensures { λ r. ⌜ ListedIs (netAt limits (parent .entry) (wire .entry) (kind .entry) (pin .entry) (polarity .entry)) (now (wires .entry)) (now (offsets .entry)) (now (out .entry)) r (now (out .exit)) ⌝ }
 {
-    let judged = net::judge(limits, parent, wire, kind, pin, polarity);
-    if let Judged::Refused(r) = judged {
-        return Listed::Refused(r);
-    }
-    let stands = entries_stand(wire, wires, offsets);
-    if let Judged::Refused(r) = stands {
+    let begun = begin(limits, parent, wire, kind, pin, polarity, wires, offsets);
+    if let Judged::Refused(r) = begun {
         return Listed::Refused(r);
     }
     let count = wires.len();
