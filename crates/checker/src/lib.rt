@@ -4,8 +4,8 @@ use net::Judged;
 use net::Limits;
 use net::Refusal;
 ghost use mathlib.Core.Path.{_≡_};
-ghost use Prim.Native.Nat.{suc, _+_, _*_, _%_, _-_, _≤_};
-ghost use lib.ListN.{length};
+ghost use Prim.Native.Nat.{_+_, _*_, _%_, _-_, _≤_, _<_};
+ghost use lib.ListN.{length, getD};
 ghost use lib.Seq.{sets};
 ghost use Rattle.net.specs.Figures.{mostPlaces};
 ghost use Rattle.net.specs.Choose.{both};
@@ -195,6 +195,14 @@ fn first_sink(kind: &[u8]) -> usize
     i
 }
 
+// Whether the inverters down to a node and its polarity make an odd sum.
+fn sense(odd: &[u8; PLACES], polarity: &[u8], i: usize) -> u8
+    requires { ⌜ (i < mostPlaces) × (i < length (now polarity)) × (getD (now odd) i 0 + getD (now polarity) i 0 ≤ 2) ⌝ }
+    ensures { λ r. ⌜ r ≡ (getD (now (odd .entry)) i 0 + getD (now (polarity .entry)) i 0) % 2 ⌝ }
+{
+    (odd[i] + polarity[i]) % 2
+}
+
 // 12: each sink's inverters and polarity against those of the lowest-numbered sink.
 fn one_sense(
     limits: Limits,
@@ -215,11 +223,11 @@ fn one_sense(
     if kind.len() <= lowest {
         return Judged::Sound;
     }
-    let expected = (odd[lowest] + polarity[lowest]) % 2;
     let mut i = 1;
     while i < kind.len() {
         if kind[i] == 1 {
-            let own = (odd[i] + polarity[i]) % 2;
+            let own = sense(odd, polarity, i);
+            let expected = sense(odd, polarity, lowest);
             if own != expected {
                 return Judged::Refused(Refusal::WrongParity(i));
             }
@@ -271,7 +279,8 @@ fn weigh(
         &first,
         0,
     );
-    if (limits.limit as u64) < source {
+    let most = limits.limit as u64;
+    if most < source {
         return Verdict::Refused(Refusal::Overloaded(wires.len()));
     }
     let mut odd = [0u8; PLACES];

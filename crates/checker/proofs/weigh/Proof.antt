@@ -25,8 +25,8 @@ enum-told c = search needs
 load-below-requires : tie.Need-load-below-requires
 load-below-requires c κs = record { placed = (stood-placed (c .before .before .before .before .before .before .before .before .before .before .before .before .before .before .pre) (c .before .before .before .before .before .first-entries .ensures)); within = c .before .before .before .before .before .before .before .before .before .before .before .before .before .before .pre .sound .some }
 
-cast-if1 : tie.Need-cast-if1
-cast-if1 c = search needs
+cast-most : tie.Need-cast-most
+cast-most c = search needs
 
 returns-2 : tie.Need-returns-2
 returns-2 c = source-over (stood-placed (c .before .before .before .before .before .before .before .before .before .before .before .before .before .before .before .before .before .pre) (c .before .before .before .before .before .before .before .before .first-entries .ensures)) _ (c .before .before .before .before .before .before .entries-within-limit .ensures) (c .before .before .before .before .enum-told .given .1) _ (c .before .before .load-below .ensures) (c .if1 .taken)
@@ -59,7 +59,7 @@ weigh-spec =
     returns
     enum-told
     load-below-requires
-    cast-if1
+    cast-most
     returns-2
     turns-requires
     one-sense-requires
