@@ -1,0 +1,8 @@
+-- What the proofs of several functions use.
+pub mod CheckedIsLegal
+pub mod Walks
+pub mod Inverters
+pub mod Standing
+pub mod Senses
+pub mod Weighing
+pub mod Filled

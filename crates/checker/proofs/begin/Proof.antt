@@ -1,0 +1,28 @@
+-- `checker::begin` meets its contract: the net's judgement, and then that of the entries (Weighing.antt).
+use Rattle.checker.proofs.Weighing.{has-wires, net-first, sound-net, then-stood}
+use borrow.Author.Needs.{needs}
+use Rattle.checker.proofs.begin.Statement.{statement}
+use Rattle.checker.proofs.begin.Tie as tie
+
+judge-requires : tie.Need-judge-requires
+judge-requires c κs = search needs
+
+enum-told : tie.Need-enum-told
+enum-told c = search needs
+
+returns : tie.Need-returns
+returns c = net-first _ (c .before .before .before .before .before .before .before .before .before .before .args .wires .now) (c .before .before .before .before .before .before .before .before .before .before .args .offsets .now) _ (c .before .before .judge .ensures) _ (c .enum-told .given .1)
+
+enum-told-2 : tie.Need-enum-told-2
+enum-told-2 c = search needs
+
+entries-stand-requires : tie.Need-entries-stand-requires
+entries-stand-requires c κs = search needs
+
+returns-2 : tie.Need-returns-2
+returns-2 c = then-stood _ (c .before .before .before .before .before .before .before .before .before .before .before .args .wires .now) (c .before .before .before .before .before .before .before .before .before .before .before .args .offsets .now) _ (c .before .before .before .judge .ensures) (c .before .enum-told2 .given .1) _ (c .entries-stand .ensures _ (has-wires (sound-net _ (c .before .before .before .before .before .before .before .before .before .before .before .args .wires .now) (c .before .before .before .before .before .before .before .before .before .before .before .args .offsets .now) _ (c .before .before .before .judge .ensures) (c .before .enum-told2 .given .1))))
+
+pub begin-spec : {M : Type 1} → statement M
+begin-spec =
+    tie.close
+    (tie.spec judge-requires enum-told returns enum-told-2 entries-stand-requires returns-2)

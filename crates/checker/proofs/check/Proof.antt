@@ -1,0 +1,28 @@
+-- `checker::check` meets its contract: the net's refusals, 7 and 10, and then 11 and 12 (Weighing.antt).
+use mathlib.Core.Path.{_∙_}
+use Rattle.checker.proofs.Weighing.{begun-says, begun-refused, weighed-last}
+use borrow.Author.Needs.{needs}
+use Rattle.checker.proofs.check.Statement.{statement}
+use Rattle.checker.proofs.check.Tie as tie
+
+begin-requires : tie.Need-begin-requires
+begin-requires c κs = search needs
+
+enum-known-begun : tie.Need-enum-known-begun
+enum-known-begun c = search needs
+
+returns : tie.Need-returns
+returns c = begun-refused _ (c .before .before .before .before .before .before .before .before .before .before .before .args .wires .now) (c .before .before .before .before .before .before .before .before .before .before .before .args .offsets .now) _ (c .before .before .before .begin .ensures) _ (c .before .begun .given .1)
+
+enum-told : tie.Need-enum-told
+enum-told c = search needs
+
+weigh-requires : tie.Need-weigh-requires
+weigh-requires c κs = begun-says _ (c .before .before .before .before .before .before .before .before .before .before .args .wires .now) (c .before .before .before .before .before .before .before .before .before .before .args .offsets .now) _ (c .before .before .begin .ensures) (c .enum-told .given .1)
+
+returns-2 : tie.Need-returns-2
+returns-2 c = c .weigh .ensures ∙ weighed-last _ (c .before .before .before .before .before .before .before .before .before .before .before .args .wires .now) (c .before .before .before .before .before .before .before .before .before .before .before .args .offsets .now) _ (c .before .before .before .begin .ensures) (c .before .enum-told .given .1)
+
+pub check-spec : {M : Type 1} → statement M
+check-spec =
+    tie.close (tie.spec begin-requires enum-known-begun returns enum-told weigh-requires returns-2)

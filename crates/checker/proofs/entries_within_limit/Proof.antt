@@ -1,0 +1,70 @@
+-- `checker::entries_within_limit` meets its contract. The invariant: what is left of the loads decides the answer.
+use Prim.Native.Nat.{ℕ, suc, _≤_, _<_, _-_}
+use mathlib.Core.Path.{_≡_, refl, sym, _∙_}
+use native.Mathlib.Omega.{arith}
+use native.Mathlib.Numerals.{add-one}
+use lib.ListN.{length, drop}
+use Rattle.net.specs.Net.{net}
+use Rattle.net.specs.Load.{entries, offsetsOn, driven}
+use Rattle.net.specs.Checked.{withinLimit}
+use Rattle.load.proofs.Wire.{driven-length}
+use Rattle.checker.proofs.Walks.{within-next, within-stop, within-end}
+use Rattle.checker.proofs.entries_within_limit.Statement.{statement}
+use Rattle.checker.proofs.entries_within_limit.Tie as tie
+
+abbrev Inv-loop : tie.InvT-loop
+Inv-loop limits parent wire kind pin polarity wires offsets first most k₀ k =
+    (k ≤ length wires)
+    × (withinLimit (limits .limit) 0 (driven (net limits parent wire kind pin polarity) (offsetsOn (entries wires offsets)))
+    ≡ withinLimit (limits .limit) k (drop k (driven (net limits parent wire kind pin polarity) (offsetsOn (entries wires offsets)))))
+
+abbrev μ-loop : tie.MeasureT-loop
+μ-loop limits parent wire kind pin polarity wires offsets first most k₀ k = length wires - k
+
+cast-most : tie.Need-cast-most Inv-loop μ-loop
+cast-most c = omega arith
+
+loop-holds : tie.Need-loop-holds Inv-loop μ-loop
+loop-holds c = (omega arith, refl)
+
+drives-requires : tie.Need-drives-requires Inv-loop μ-loop
+drives-requires c κs = record { placed = c .before .before .before .before .before .before .before .before .before .before .pre; within = omega arith }
+
+returns : tie.Need-returns Inv-loop μ-loop
+returns c =
+    let l = c .before .before .before .loop in
+    let m = driven-length (c .before .before .before .before .before .before .before .before .before .before .before .before .pre) in
+    sym (l .inv .1 ∙ within-stop _ _ (l .k) (omega (arith, m)) (omega (arith, c .before .drives .ensures, c .if1 .taken)))
+
+add-k : tie.Need-add-k Inv-loop μ-loop
+add-k c = omega arith
+
+loop-less : tie.Need-loop-less Inv-loop μ-loop
+loop-less c = omega arith
+
+loop-again : tie.Need-loop-again Inv-loop μ-loop
+loop-again c =
+    let l = c .before .before .before .loop in
+    let m = driven-length (c .before .before .before .before .before .before .before .before .before .before .before .before .pre) in
+    (omega arith, rw add-one (l .inv .1 ∙ within-next _ _ (l .k) (omega (arith, m)) (omega (arith, c .before .drives .ensures, c .if1 .left))))
+
+returns-2 : tie.Need-returns-2 Inv-loop μ-loop
+returns-2 c =
+    let l = c .before .loop in
+    let m = driven-length (c .before .before .before .before .before .before .before .before .before .before .pre) in
+    sym (l .inv .1 ∙ within-end _ _ (l .k) (omega (arith, m)))
+
+pub entries-within-limit-spec : {M : Type 1} → statement M
+entries-within-limit-spec =
+    tie.close
+    (tie.spec
+    Inv-loop
+    μ-loop
+    cast-most
+    loop-holds
+    drives-requires
+    returns
+    add-k
+    loop-less
+    loop-again
+    returns-2)

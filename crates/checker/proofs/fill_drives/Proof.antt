@@ -1,0 +1,61 @@
+-- `checker::fill_drives` meets its contract. The invariant: the first k places hold the first k loads, and the others are as they came.
+use Prim.Native.Nat.{ℕ, suc, _≤_, _<_, _-_, _+_}
+use mathlib.Core.Path.{_≡_, refl, sym, ap, _∙_}
+use native.Mathlib.Omega.{arith}
+use lib.ListN.{length}
+use Rattle.net.specs.Net.{net}
+use Rattle.net.specs.Load.{entries, offsetsOn, driven}
+use Rattle.load.proofs.Wire.{driven-length}
+use Rattle.checker.proofs.Filled.{Filled, filled-none, filled-more, filled-all}
+use Rattle.checker.proofs.fill_drives.Statement.{statement}
+use Rattle.checker.proofs.fill_drives.Tie as tie
+
+abbrev Inv-loop : tie.InvT-loop
+Inv-loop limits parent wire kind pin polarity wires offsets first out₀ k₀ out k =
+    (k ≤ length wires) × Filled (driven (net limits parent wire kind pin polarity) (offsetsOn (entries wires offsets))) out₀ k out
+
+abbrev μ-loop : tie.MeasureT-loop
+μ-loop limits parent wire kind pin polarity wires offsets first out₀ k₀ out k = length wires - k
+
+loop-holds : tie.Need-loop-holds Inv-loop μ-loop
+loop-holds c = (omega arith, filled-none)
+
+drives-requires : tie.Need-drives-requires Inv-loop μ-loop
+drives-requires c κs = record { placed = c .before .before .before .before .before .before .before .before .before .before .pre .0; within = omega arith }
+
+mul-out : tie.Need-mul-out Inv-loop μ-loop
+mul-out c = omega (arith, c .before .before .before .before .before .before .before .before .before .before .before .pre .1, c .before .before .loop .inv .1 .long)
+
+slice-write-out : tie.Need-slice-write-out Inv-loop μ-loop
+slice-write-out c = omega (arith, c .before .before .before .before .before .before .before .before .before .before .before .pre .1, c .before .before .loop .inv .1 .long)
+
+add-k : tie.Need-add-k Inv-loop μ-loop
+add-k c = omega arith
+
+loop-less : tie.Need-loop-less Inv-loop μ-loop
+loop-less c = omega arith
+
+loop-again : tie.Need-loop-again Inv-loop μ-loop
+loop-again c = (omega arith, filled-more (c .before .before .loop .inv .1) (omega (arith, c .before .before .before .before .before .before .before .before .before .before .before .pre .1)) (omega (arith, driven-length (c .before .before .before .before .before .before .before .before .before .before .before .pre .0))) _ (c .drives .ensures))
+
+same-length : tie.Need-same-length Inv-loop μ-loop
+same-length c = c .before .loop .inv .1 .long
+
+returns : tie.Need-returns Inv-loop μ-loop
+returns c = let m = driven-length (c .before .before .before .before .before .before .before .before .before .before .pre .0) in filled-all (c .before .loop .inv .1) (omega (arith, m)) (omega (arith, m, c .before .before .before .before .before .before .before .before .before .before .pre .1))
+
+pub fill-drives-spec : {M : Type 1} → statement M
+fill-drives-spec =
+    tie.close
+    (tie.spec
+    Inv-loop
+    μ-loop
+    loop-holds
+    drives-requires
+    mul-out
+    slice-write-out
+    add-k
+    loop-less
+    loop-again
+    same-length
+    returns)

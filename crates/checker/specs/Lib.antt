@@ -1,0 +1,4 @@
+pub mod Verdict
+pub mod Stands
+pub mod Parity
+pub mod Listing

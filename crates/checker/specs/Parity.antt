@@ -1,0 +1,13 @@
+-- The inverters from the source to each node, counted by twos.
+use Prim.Native.Nat.{ℕ, _%_, _<_}
+use mathlib.Core.Path.{_≡_}
+use mathlib.Core.List.{List}
+use lib.ListN.{length, getD}
+use Rattle.net.specs.Figures.{mostPlaces}
+use Rattle.net.specs.Net.{Net}
+use Rattle.net.specs.Legal.{inverters}
+
+-- the table holds for each of the first k nodes whether the inverters down to it are odd
+pub record Turned (n : Net) (offs : ℕ → List ℕ) (k : ℕ) (odd : List ℕ) : Type 0 where
+  pub long : length odd ≡ mostPlaces
+  pub at : (i : ℕ) → i < k → getD odd i 0 ≡ inverters n offs i % 2

@@ -1,0 +1,37 @@
+-- Document 01, "Numbers given back": "A judged placement answers its count and the source's load."
+use Prim.Native.Nat.{ℕ}
+use mathlib.Core.Path.{_≡_}
+use mathlib.Core.Bool.{true}
+use mathlib.Core.List.{List}
+use lib.ListN.{length}
+use Rattle.net.specs.declared.Judged.{Judged}
+use Rattle.net.specs.declared.Judged.the-variants.{Sound, Refused}
+use Rattle.net.specs.Net.{Net}
+use Rattle.net.specs.Load.{entries, offsetsOn, sourceDrives, drivers}
+use Rattle.net.specs.Legal.{Legal}
+use Rattle.net.specs.Judge.{thenJudge, judged}
+use Rattle.net.specs.Checked.{placementFits, withinLimit, oneSense, checked}
+use Rattle.checker.specs.declared.Verdict.{Verdict}
+use Rattle.checker.specs.declared.Verdict.the-variants as verdicts
+
+abbrev pub verdictOf : Judged → ℕ → ℕ → Verdict
+verdictOf Sound count source = verdicts.Legal count source
+verdictOf (Refused r) count source = verdicts.Refused r
+
+-- 11 and then 12, for a placement that stands on a sound net
+abbrev pub weighed : Net → List ℕ → List ℕ → Verdict
+weighed n vs os =
+    verdictOf
+    (thenJudge (withinLimit (n .limits .limit) 0 (drivers n (entries vs os))) (oneSense n (offsetsOn (entries vs os))))
+    (length vs)
+    (sourceDrives n (offsetsOn (entries vs os)))
+
+-- what the checker answers
+abbrev pub verdict : Net → List ℕ → List ℕ → Verdict
+verdict n vs os = verdictOf (checked n vs os) (length vs) (sourceDrives n (offsetsOn (entries vs os)))
+
+-- a sound net, and columns that fit and hold a legal placement of it
+pub record LegalColumns (n : Net) (vs os : List ℕ) : Type 0 where
+  pub sound : judged n ≡ Sound
+  pub fit : placementFits vs os ≡ true
+  pub legal : Legal n (entries vs os)

@@ -1,0 +1,433 @@
+// The checker: judges anybody's placement on a net, and lists what each entry drives.
+use net::Entry;
+use net::Judged;
+use net::Limits;
+use net::Refusal;
+ghost use mathlib.Core.Path.{_≡_};
+ghost use Prim.Native.Nat.{_+_, _*_, _%_, _-_, _≤_, _<_};
+ghost use lib.ListN.{length, getD};
+ghost use lib.Seq.{sets};
+ghost use Rattle.net.specs.Figures.{mostPlaces};
+ghost use Rattle.net.specs.Choose.{both};
+ghost use Rattle.net.specs.Net.{Net, netAt, places};
+ghost use Rattle.net.specs.Load.{driven};
+ghost use Rattle.net.specs.Sound.{SoundNet};
+ghost use Rattle.net.specs.Checked.{onItsWire, notLower, withinLimit, firstSink, oneSense};
+ghost use Rattle.load.specs.Asks.{offsetsAt, Placed};
+ghost use Rattle.checker.specs.Verdict.{weighed, verdict};
+ghost use Rattle.checker.specs.Listing.{ListedIs};
+ghost use Rattle.checker.specs.Stands.{stood, begun, Stood, HasWires};
+ghost use Rattle.checker.specs.Parity.{Turned};
+
+// The places of a table over nodes.
+const PLACES: usize = 1025;
+
+// The most entries that columns may have.
+const ENTRIES: usize = 4096;
+
+// What the checker says of a placement.
+pub enum Verdict {
+    Legal { count: usize, source: u64 },
+    Refused(Refusal),
+}
+
+// Whether an entry stands on a wire, and not before another: the tests of 10.
+fn entry_stands(wire: &[u32], before: Entry, entry: Entry) -> bool
+    ensures { λ r. ⌜ ((n : Net) → HasWires n (now (wire .entry)) → r ≡ both (onItsWire n entry) (notLower before entry)) ⌝ }
+{
+    let on = entry.wire as usize;
+    if on == 0 {
+        return false;
+    }
+    if wire.len() <= on {
+        return false;
+    }
+    if wire[on] < entry.offset {
+        return false;
+    }
+    if before.wire < entry.wire {
+        return true;
+    }
+    if before.wire != entry.wire {
+        return false;
+    }
+    before.offset <= entry.offset
+}
+
+// 7 and 10: the columns of a placement fit, and each entry stands on a wire and not before the one before it.
+fn entries_stand(wire: &[u32], wires: &[u16], offsets: &[u32]) -> Judged
+    ensures { λ r. ⌜ ((n : Net) → HasWires n (now (wire .entry)) → r ≡ stood n (now (wires .entry)) (now (offsets .entry))) ⌝ }
+{
+    if offsets.len() != wires.len() {
+        return Judged::Refused(Refusal::WrongColumns);
+    }
+    if ENTRIES < wires.len() {
+        return Judged::Refused(Refusal::WrongColumns);
+    }
+    let mut before = Entry { wire: 0, offset: 0 };
+    let mut k = 0;
+    while k < wires.len() {
+        let on = wires[k];
+        let offset = offsets[k];
+        let entry = Entry {
+            wire: on,
+            offset: offset,
+        };
+        if !entry_stands(wire, before, entry) {
+            return Judged::Refused(Refusal::Misplaced(k));
+        }
+        before = entry;
+        k += 1;
+    }
+    Judged::Sound
+}
+
+// What every call on a placement begins with: the net's refusals, then 7 and 10.
+fn begin(
+    limits: Limits,
+    parent: &[u16],
+    wire: &[u32],
+    kind: &[u8],
+    pin: &[u32],
+    polarity: &[u8],
+    wires: &[u16],
+    offsets: &[u32],
+) -> Judged
+    ensures { λ r. ⌜ r ≡ begun (netAt limits (parent .entry) (wire .entry) (kind .entry) (pin .entry) (polarity .entry)) (now (wires .entry)) (now (offsets .entry)) ⌝ }
+{
+    let judged = net::judge(limits, parent, wire, kind, pin, polarity);
+    if let Judged::Refused(_) = judged {
+        return judged;
+    }
+    entries_stand(wire, wires, offsets)
+}
+
+// 11 for the entries.
+fn entries_within_limit(
+    limits: Limits,
+    parent: &[u16],
+    wire: &[u32],
+    kind: &[u8],
+    pin: &[u32],
+    polarity: &[u8],
+    wires: &[u16],
+    offsets: &[u32],
+    first: &[usize; load::FIRSTS],
+) -> Judged
+    requires { ⌜ Placed (netAt limits parent wire kind pin polarity) (now wires) (now offsets) (now first) ⌝ }
+    ensures { λ r. ⌜ r ≡ withinLimit (limits .limit) 0 (driven (netAt limits (parent .entry) (wire .entry) (kind .entry) (pin .entry) (polarity .entry)) (offsetsAt (wires .entry) (offsets .entry))) ⌝ }
+{
+    let most = limits.limit as u64;
+    let mut k = 0;
+    while k < wires.len() {
+        let load = load::drives(
+            limits,
+            parent,
+            wire,
+            kind,
+            pin,
+            polarity,
+            wires,
+            offsets,
+            first,
+            k,
+        );
+        if most < load {
+            return Judged::Refused(Refusal::Overloaded(k));
+        }
+        k += 1;
+    }
+    Judged::Sound
+}
+
+// Whether the inverters down to a node are odd, by those down to its parent.
+fn turn(repeater: u8, count: usize, above: u8) -> u8
+    requires { ⌜ (repeater ≤ 1) × (above ≤ 1) ⌝ }
+    ensures { λ r. ⌜ r ≡ (repeater * count + above) % 2 ⌝ }
+{
+    if repeater == 0 {
+        return above;
+    }
+    let own = (count % 2) as u8;
+    (own + above) % 2
+}
+
+// Whether the inverters from the source to each node are odd, each node after its parent.
+fn turns(
+    limits: Limits,
+    parent: &[u16],
+    wire: &[u32],
+    kind: &[u8],
+    pin: &[u32],
+    polarity: &[u8],
+    wires: &[u16],
+    offsets: &[u32],
+    first: &[usize; load::FIRSTS],
+    odd: &mut [u8; PLACES],
+)
+    requires { ⌜ Placed (netAt limits parent wire kind pin polarity) (now wires) (now offsets) (now first) ⌝ }
+    requires { ⌜ length (now odd) ≡ mostPlaces ⌝ }
+    ensures { λ _. ⌜ Turned (netAt limits (parent .entry) (wire .entry) (kind .entry) (pin .entry) (polarity .entry)) (offsetsAt (wires .entry) (offsets .entry)) (places (netAt limits (parent .entry) (wire .entry) (kind .entry) (pin .entry) (polarity .entry))) (now (odd .exit)) ⌝ }
+{
+    odd[0] = 0;
+    let mut i = 1;
+    while i < parent.len() {
+        let above = parent[i] as usize;
+        let count = first[i + 1] - first[i];
+        let higher = odd[above];
+        odd[i] = turn(limits.repeater, count, higher);
+        i += 1;
+    }
+}
+
+// The lowest-numbered sink, or the number of places.
+fn first_sink(kind: &[u8]) -> usize
+    requires { ⌜ 1 ≤ length (now kind) ⌝ }
+    ensures { λ r. ⌜ ((n : Net) → n .kinds ≡ now (kind .entry) → r ≡ firstSink n (length (n .kinds) - 1) 1) ⌝ }
+{
+    let mut i = 1;
+    while i < kind.len() {
+        if kind[i] == 1 {
+            return i;
+        }
+        i += 1;
+    }
+    i
+}
+
+// Whether the inverters down to a node and its polarity make an odd sum.
+fn sense(odd: &[u8; PLACES], polarity: &[u8], i: usize) -> u8
+    requires { ⌜ (i < mostPlaces) × (i < length (now polarity)) × (getD (now odd) i 0 + getD (now polarity) i 0 ≤ 2) ⌝ }
+    ensures { λ r. ⌜ r ≡ (getD (now (odd .entry)) i 0 + getD (now (polarity .entry)) i 0) % 2 ⌝ }
+{
+    (odd[i] + polarity[i]) % 2
+}
+
+// 12: each sink's inverters and polarity against those of the lowest-numbered sink.
+fn one_sense(
+    limits: Limits,
+    parent: &[u16],
+    wire: &[u32],
+    kind: &[u8],
+    pin: &[u32],
+    polarity: &[u8],
+    wires: &[u16],
+    offsets: &[u32],
+    odd: &[u8; PLACES],
+) -> Judged
+    requires { ⌜ SoundNet (netAt limits parent wire kind pin polarity) ⌝ }
+    requires { ⌜ Turned (netAt limits parent wire kind pin polarity) (offsetsAt wires offsets) (places (netAt limits parent wire kind pin polarity)) (now odd) ⌝ }
+    ensures { λ r. ⌜ r ≡ oneSense (netAt limits (parent .entry) (wire .entry) (kind .entry) (pin .entry) (polarity .entry)) (offsetsAt (wires .entry) (offsets .entry)) ⌝ }
+{
+    let lowest = first_sink(kind);
+    if kind.len() <= lowest {
+        return Judged::Sound;
+    }
+    let mut i = 1;
+    while i < kind.len() {
+        if kind[i] == 1 {
+            let own = sense(odd, polarity, i);
+            let expected = sense(odd, polarity, lowest);
+            if own != expected {
+                return Judged::Refused(Refusal::WrongParity(i));
+            }
+        }
+        i += 1;
+    }
+    Judged::Sound
+}
+
+// 11 and 12 for a placement that stands on a sound net.
+fn weigh(
+    limits: Limits,
+    parent: &[u16],
+    wire: &[u32],
+    kind: &[u8],
+    pin: &[u32],
+    polarity: &[u8],
+    wires: &[u16],
+    offsets: &[u32],
+) -> Verdict
+    requires { ⌜ Stood (netAt limits parent wire kind pin polarity) (now wires) (now offsets) ⌝ }
+    ensures { λ r. ⌜ r ≡ weighed (netAt limits (parent .entry) (wire .entry) (kind .entry) (pin .entry) (polarity .entry)) (now (wires .entry)) (now (offsets .entry)) ⌝ }
+{
+    let mut first = [0usize; load::FIRSTS];
+    load::first_entries(wires, parent.len(), &mut first);
+    let loads = entries_within_limit(
+        limits,
+        parent,
+        wire,
+        kind,
+        pin,
+        polarity,
+        wires,
+        offsets,
+        &first,
+    );
+    if let Judged::Refused(r) = loads {
+        return Verdict::Refused(r);
+    }
+    let source = load::load_below(
+        limits,
+        parent,
+        wire,
+        kind,
+        pin,
+        polarity,
+        wires,
+        offsets,
+        &first,
+        0,
+    );
+    let most = limits.limit as u64;
+    if most < source {
+        return Verdict::Refused(Refusal::Overloaded(wires.len()));
+    }
+    let mut odd = [0u8; PLACES];
+    turns(
+        limits,
+        parent,
+        wire,
+        kind,
+        pin,
+        polarity,
+        wires,
+        offsets,
+        &first,
+        &mut odd,
+    );
+    let senses = one_sense(
+        limits,
+        parent,
+        wire,
+        kind,
+        pin,
+        polarity,
+        wires,
+        offsets,
+        &odd,
+    );
+    if let Judged::Refused(r) = senses {
+        return Verdict::Refused(r);
+    }
+    Verdict::Legal {
+        count: wires.len(),
+        source: source,
+    }
+}
+
+// Judges a placement: the net's refusals, 7, 10, 11, 12, or its count and the source's load.
+pub fn check(
+    limits: Limits,
+    parent: &[u16],
+    wire: &[u32],
+    kind: &[u8],
+    pin: &[u32],
+    polarity: &[u8],
+    wires: &[u16],
+    offsets: &[u32],
+) -> Verdict
+    ensures { λ r. ⌜ r ≡ verdict (netAt limits (parent .entry) (wire .entry) (kind .entry) (pin .entry) (polarity .entry)) (now (wires .entry)) (now (offsets .entry)) ⌝ }
+{
+    let begun = begin(limits, parent, wire, kind, pin, polarity, wires, offsets);
+    if let Judged::Refused(r) = begun {
+        return Verdict::Refused(r);
+    }
+    weigh(limits, parent, wire, kind, pin, polarity, wires, offsets)
+}
+
+// What each entry drives, in list order, into a column that has room.
+fn fill_drives(
+    limits: Limits,
+    parent: &[u16],
+    wire: &[u32],
+    kind: &[u8],
+    pin: &[u32],
+    polarity: &[u8],
+    wires: &[u16],
+    offsets: &[u32],
+    first: &[usize; load::FIRSTS],
+    out: &mut [u64],
+)
+    requires { ⌜ Placed (netAt limits parent wire kind pin polarity) (now wires) (now offsets) (now first) ⌝ }
+    requires { ⌜ length (now wires) ≤ length (now out) ⌝ }
+    ensures { λ _. ⌜ now (out .exit) ≡ sets (now (out .entry)) 0 (driven (netAt limits (parent .entry) (wire .entry) (kind .entry) (pin .entry) (polarity .entry)) (offsetsAt (wires .entry) (offsets .entry))) ⌝ }
+{
+    let mut k = 0;
+    while k < wires.len() {
+        let load = load::drives(
+            limits,
+            parent,
+            wire,
+            kind,
+            pin,
+            polarity,
+            wires,
+            offsets,
+            first,
+            k,
+        );
+        out[k] = load;
+        k += 1;
+    }
+}
+
+// What the list of loads says.
+pub enum Listed {
+    Driven { count: usize, source: u64 },
+    Refused(Refusal),
+}
+
+// Lists what each entry drives, in list order, and the source's load: the net's refusals, 7, 10, 9. An overloaded placement is listed too.
+pub fn list_drives(
+    limits: Limits,
+    parent: &[u16],
+    wire: &[u32],
+    kind: &[u8],
+    pin: &[u32],
+    polarity: &[u8],
+    wires: &[u16],
+    offsets: &[u32],
+    out: &mut [u64],
+) -> Listed
+    ensures { λ r. ⌜ ListedIs (netAt limits (parent .entry) (wire .entry) (kind .entry) (pin .entry) (polarity .entry)) (now (wires .entry)) (now (offsets .entry)) (now (out .entry)) r (now (out .exit)) ⌝ }
+{
+    let begun = begin(limits, parent, wire, kind, pin, polarity, wires, offsets);
+    if let Judged::Refused(r) = begun {
+        return Listed::Refused(r);
+    }
+    let count = wires.len();
+    if out.len() < count {
+        return Listed::Refused(Refusal::NoRoom(count as u64));
+    }
+    let mut first = [0usize; load::FIRSTS];
+    load::first_entries(wires, parent.len(), &mut first);
+    fill_drives(
+        limits,
+        parent,
+        wire,
+        kind,
+        pin,
+        polarity,
+        wires,
+        offsets,
+        &first,
+        out,
+    );
+    let source = load::load_below(
+        limits,
+        parent,
+        wire,
+        kind,
+        pin,
+        polarity,
+        wires,
+        offsets,
+        &first,
+        0,
+    );
+    Listed::Driven {
+        count: count,
+        source: source,
+    }
+}

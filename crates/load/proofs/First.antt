@@ -1,0 +1,44 @@
+-- Where the entries of each wire begin. One pass fills the table: at wire i it has passed just the entries on wires before i.
+use Prim.Native.Nat.{ℕ, suc, _≤_, _<_, _-_, _+_}
+use mathlib.Core.Path.{_≡_, refl, sym, ap, _∙_}
+use mathlib.Core.List.{List}
+use native.Mathlib.Omega.{arith}
+use borrow.Author.Count.{below-more}
+use lib.ListN.{length, getD, set, length-set}
+use lib.Seq.{getD-set-same, getD-set-other}
+use Rattle.net.specs.Figures.{mostPlaces}
+use Rattle.load.specs.First.{Rising, Begins, Firsts}
+
+-- the table is filled below i, and k entries are passed
+pub record Filling (vs : List ℕ) (n : ℕ) (first : List ℕ) (i k : ℕ) : Type 0 where
+  pub upto : i ≤ n + 1
+  pub long : length first ≡ suc mostPlaces
+  pub done : (j : ℕ) → j < i → Begins vs j (getD first j 0)
+  pub within : k ≤ length vs
+  pub passed : (a : ℕ) → a < k → getD vs a 0 < i
+
+pub filling-none : {vs first : List ℕ} {n : ℕ} → length first ≡ suc mostPlaces → Filling vs n first 0 0
+filling-none h = record { upto = omega arith; long = h; done = λ j l. absurd (omega arith); within = omega arith; passed = λ a l. absurd (omega arith) }
+
+module _ {vs first : List ℕ} {n i k : ℕ} (f : Filling vs n first i k) where
+  -- entry k is on a wire before i
+  pub filling-passed : k < length vs → getD vs k 0 < i → Filling vs n first i (k + 1)
+  filling-passed w h = record { upto = f .upto; long = f .long; done = f .done; within = omega arith; passed = below-more _ k (f .passed) h }
+
+  -- entry k, if there is one, is not
+  pub filling-more : Rising vs → i ≤ n → n ≤ mostPlaces → (k < length vs → i ≤ getD vs k 0) → Filling vs n (set first i k) (i + 1) k
+  filling-more r h m next = record {
+    upto = omega arith;
+    long = simp length-set (f .long);
+    done = below-more _ i
+        (λ j l. rw (getD-set-other first i j k 0 (λ e. omega arith)) (f .done j l))
+        (rw (getD-set-same first i k 0 (omega (arith, f .long))) here);
+    within = f .within;
+    passed = λ a l. omega (arith, f .passed a l);
+  }
+    where
+      here : Begins vs i k
+      here = record { within = f .within; before = f .passed; from = λ a l w. omega (arith, next (omega arith), r k a l w) }
+
+pub filling-all : {vs first : List ℕ} {n i k : ℕ} → Filling vs n first i k → n < i → Firsts vs n first
+filling-all f h = record { long = f .long; begins = λ j l. f .done j (omega arith) }
