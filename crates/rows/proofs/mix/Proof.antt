@@ -1,0 +1,75 @@
+-- The loop keeps that the first e loads are made and that the row it reads is as it was.
+use native.Mathlib.Omega.{arith}
+use Prim.Native.Nat.{_+_, _-_}
+use borrow.Author.Needs.{needs}
+use Rattle.rows.specs.Rows.{loadAt}
+use Rattle.rows.proofs.Reading.{mixed-le}
+use Rattle.rows.proofs.Mixing.{Mixing, mixing-none, mixing-small, mixing-more, mixing-all}
+use Rattle.rows.proofs.mix.Statement.{statement}
+use Rattle.rows.proofs.mix.Tie as tie
+
+abbrev Inv-loop : tie.InvT-loop
+Inv-loop rows₀ from last to a b c e₀ rows e = Mixing rows₀ rows from last to a b c e
+
+abbrev μ-loop : tie.MeasureT-loop
+μ-loop rows₀ from last to a b c e₀ rows e = (last + 3) - e
+
+loop-holds : tie.Need-loop-holds Inv-loop μ-loop
+loop-holds c = mixing-none _ _ _ _ _ _ _
+
+add-loop : tie.Need-add-loop Inv-loop μ-loop
+add-loop c = search needs
+
+mixed-at-requires : tie.Need-mixed-at-requires Inv-loop μ-loop
+mixed-at-requires c κs =
+    let s = c .before .before .before in
+    let m = c .before .before .loop .inv in
+    ((omega (arith, m .long), s .pre .0 .1), (s .pre .1 .1 .0, mixing-small m (s .pre .1 .0) 2000000000 (s .pre .1 .1 .1)))
+
+add-k : tie.Need-add-k Inv-loop μ-loop
+add-k c = search needs
+
+cast-rows : tie.Need-cast-rows Inv-loop μ-loop
+cast-rows c =
+    let s = c .before .before .before .before in
+    let l = c .before .before .before .loop in
+    omega (arith, c .mixed-at .ensures, mixed-le (loadAt (l .rows) (s .args .from) (s .args .last)) (s .args .a) (s .args .b) (s .args .c) 2000000000 (mixing-small (l .inv) (s .pre .1 .0) 2000000000 (s .pre .1 .1 .1)) (l .e))
+
+mul-rows : tie.Need-mul-rows Inv-loop μ-loop
+mul-rows c = search needs
+
+element-write-rows : tie.Need-element-write-rows Inv-loop μ-loop
+element-write-rows c = search needs
+
+add-e : tie.Need-add-e Inv-loop μ-loop
+add-e c = search needs
+
+loop-less : tie.Need-loop-less Inv-loop μ-loop
+loop-less c = search needs
+
+loop-again : tie.Need-loop-again Inv-loop μ-loop
+loop-again c =
+    let s = c .before .before .before .before in
+    let m = c .before .before .before .loop .inv in
+    mixing-more m (s .pre .1 .0) _ (c .mixed-at .ensures) (omega arith) (omega arith)
+
+returns : tie.Need-returns Inv-loop μ-loop
+returns c = mixing-all (c .before .loop .inv) (c .before .before .pre .1 .0) (omega arith)
+
+pub mix-spec : {M : Type 1} → statement M
+mix-spec =
+    tie.close
+    (tie.spec
+    Inv-loop
+    μ-loop
+    loop-holds
+    add-loop
+    mixed-at-requires
+    add-k
+    cast-rows
+    mul-rows
+    element-write-rows
+    add-e
+    loop-less
+    loop-again
+    returns)

@@ -1,0 +1,4 @@
+pub mod Trees
+pub mod Bounds
+pub mod Filling
+pub mod Ready
