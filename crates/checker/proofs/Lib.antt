@@ -5,4 +5,5 @@ pub mod Inverters
 pub mod Standing
 pub mod Senses
 pub mod Weighing
-pub mod Filled
+pub mod Stored
+pub mod Determined

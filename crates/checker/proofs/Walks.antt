@@ -20,6 +20,7 @@ use Rattle.net.specs.Load.{entries}
 use Rattle.net.specs.Legal.{start}
 use Rattle.net.specs.Judge.{unless, thenJudge}
 use Rattle.net.specs.Checked.{onItsWire, notLower, placedFrom, withinLimit, firstSink}
+use Rattle.load.proofs.Order.{at}
 use Rattle.checker.specs.Stands.{stood}
 
 pub then-assoc : (a b c : Judged) → thenJudge (thenJudge a b) c ≡ thenJudge a (thenJudge b c)
@@ -27,9 +28,6 @@ then-assoc Sound b c = refl
 then-assoc (Refused r) b c = refl
 
 -- ---- 10
-
-abbrev pub at : ℕ → ℕ → Entry
-at v o = record { wire = v; offset = o }
 
 pub entries-length : (vs os : List ℕ) → length os ≡ length vs → length (entries vs os) ≡ length vs
 unfolding entries

@@ -118,8 +118,8 @@ fn entries_within_limit(
     ensures { λ r. ⌜ r ≡ withinLimit (limits .limit) 0 (driven (netAt limits (parent .entry) (wire .entry) (kind .entry) (pin .entry) (polarity .entry)) (offsetsAt (wires .entry) (offsets .entry))) ⌝ }
 {
     let most = limits.limit as u64;
-    let mut k = 0;
-    while k < wires.len() {
+    let mut entry = 0;
+    while entry < wires.len() {
         let load = load::drives(
             limits,
             parent,
@@ -130,12 +130,12 @@ fn entries_within_limit(
             wires,
             offsets,
             first,
-            k,
+            entry,
         );
         if most < load {
-            return Judged::Refused(Refusal::Overloaded(k));
+            return Judged::Refused(Refusal::Overloaded(entry));
         }
-        k += 1;
+        entry += 1;
     }
     Judged::Sound
 }

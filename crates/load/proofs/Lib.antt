@@ -5,3 +5,4 @@ pub mod Bound
 pub mod Offsets
 pub mod Scan
 pub mod Wire
+pub mod Determined

@@ -19,3 +19,8 @@ pub record Begins (vs : List ℕ) (i c : ℕ) : Type 0 where
 pub record Firsts (vs : List ℕ) (n : ℕ) (first : List ℕ) : Type 0 where
   pub long : length first ≡ suc mostPlaces
   pub begins : (i : ℕ) → i ≤ n → Begins vs i (getD first i 0)
+
+-- a table that was filled so, and past that is as it came
+pub record Filled (vs : List ℕ) (n : ℕ) (before first : List ℕ) : Type 0 where
+  pub firsts : Firsts vs n first
+  pub others : (i : ℕ) → n < i → getD first i 0 ≡ getD before i 0

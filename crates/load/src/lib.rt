@@ -7,7 +7,7 @@ ghost use Rattle.net.specs.Figures.{mostPlaces};
 ghost use Rattle.net.specs.Net.{netAt};
 ghost use Rattle.net.specs.Load.{loadBelow, handedUp, driven};
 ghost use Rattle.load.specs.Next.{Searched, NextIs};
-ghost use Rattle.load.specs.First.{Rising, Firsts};
+ghost use Rattle.load.specs.First.{Rising, Filled};
 ghost use Rattle.load.specs.Asks.{offsetsAt, Asks, AsksEntry};
 
 // The places of a table that says where the entries of each wire begin: one more than a column's most.
@@ -39,7 +39,7 @@ pub fn next_child(parent: &[u16], node: usize, after: usize) -> Found
 pub fn first_entries(wires: &[u16], places: usize, first: &mut [usize; FIRSTS])
     requires { ⌜ Rising (now wires) ⌝ }
     requires { ⌜ (places ≤ mostPlaces) × (length (now first) ≡ suc mostPlaces) ⌝ }
-    ensures { λ _. ⌜ Firsts (now (wires .entry)) places (now (first .exit)) ⌝ }
+    ensures { λ _. ⌜ Filled (now (wires .entry)) places (now (first .entry)) (now (first .exit)) ⌝ }
 {
     let mut i = 0;
     let mut k = 0;

@@ -13,13 +13,13 @@ use Rattle.checker.proofs.entries_within_limit.Statement.{statement}
 use Rattle.checker.proofs.entries_within_limit.Tie as tie
 
 abbrev Inv-loop : tie.InvT-loop
-Inv-loop limits parent wire kind pin polarity wires offsets first most k₀ k =
-    (k ≤ length wires)
+Inv-loop limits parent wire kind pin polarity wires offsets first most entry₀ entry =
+    (entry ≤ length wires)
     × (withinLimit (limits .limit) 0 (driven (net limits parent wire kind pin polarity) (offsetsOn (entries wires offsets)))
-    ≡ withinLimit (limits .limit) k (drop k (driven (net limits parent wire kind pin polarity) (offsetsOn (entries wires offsets)))))
+    ≡ withinLimit (limits .limit) entry (drop entry (driven (net limits parent wire kind pin polarity) (offsetsOn (entries wires offsets)))))
 
 abbrev μ-loop : tie.MeasureT-loop
-μ-loop limits parent wire kind pin polarity wires offsets first most k₀ k = length wires - k
+μ-loop limits parent wire kind pin polarity wires offsets first most entry₀ entry = length wires - entry
 
 cast-most : tie.Need-cast-most Inv-loop μ-loop
 cast-most c = omega arith
@@ -34,10 +34,10 @@ returns : tie.Need-returns Inv-loop μ-loop
 returns c =
     let l = c .before .before .before .loop in
     let m = driven-length (c .before .before .before .before .before .before .before .before .before .before .before .before .pre) in
-    sym (l .inv .1 ∙ within-stop _ _ (l .k) (omega (arith, m)) (omega (arith, c .before .drives .ensures, c .if1 .taken)))
+    sym (l .inv .1 ∙ within-stop _ _ (l .entry) (omega (arith, m)) (omega (arith, c .before .drives .ensures, c .if1 .taken)))
 
-add-k : tie.Need-add-k Inv-loop μ-loop
-add-k c = omega arith
+add-entry : tie.Need-add-entry Inv-loop μ-loop
+add-entry c = omega arith
 
 loop-less : tie.Need-loop-less Inv-loop μ-loop
 loop-less c = omega arith
@@ -46,13 +46,13 @@ loop-again : tie.Need-loop-again Inv-loop μ-loop
 loop-again c =
     let l = c .before .before .before .loop in
     let m = driven-length (c .before .before .before .before .before .before .before .before .before .before .before .before .pre) in
-    (omega arith, rw add-one (l .inv .1 ∙ within-next _ _ (l .k) (omega (arith, m)) (omega (arith, c .before .drives .ensures, c .if1 .left))))
+    (omega arith, rw add-one (l .inv .1 ∙ within-next _ _ (l .entry) (omega (arith, m)) (omega (arith, c .before .drives .ensures, c .if1 .left))))
 
 returns-2 : tie.Need-returns-2 Inv-loop μ-loop
 returns-2 c =
     let l = c .before .loop in
     let m = driven-length (c .before .before .before .before .before .before .before .before .before .before .pre) in
-    sym (l .inv .1 ∙ within-end _ _ (l .k) (omega (arith, m)))
+    sym (l .inv .1 ∙ within-end _ _ (l .entry) (omega (arith, m)))
 
 pub entries-within-limit-spec : {M : Type 1} → statement M
 entries-within-limit-spec =
@@ -64,7 +64,7 @@ entries-within-limit-spec =
     loop-holds
     drives-requires
     returns
-    add-k
+    add-entry
     loop-less
     loop-again
     returns-2)

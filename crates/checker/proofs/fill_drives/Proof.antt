@@ -6,19 +6,19 @@ use lib.ListN.{length}
 use Rattle.net.specs.Net.{net}
 use Rattle.net.specs.Load.{entries, offsetsOn, driven}
 use Rattle.load.proofs.Wire.{driven-length}
-use Rattle.checker.proofs.Filled.{Filled, filled-none, filled-more, filled-all}
+use Rattle.checker.proofs.Stored.{Stored, stored-none, stored-more, stored-all}
 use Rattle.checker.proofs.fill_drives.Statement.{statement}
 use Rattle.checker.proofs.fill_drives.Tie as tie
 
 abbrev Inv-loop : tie.InvT-loop
 Inv-loop limits parent wire kind pin polarity wires offsets first out₀ k₀ out k =
-    (k ≤ length wires) × Filled (driven (net limits parent wire kind pin polarity) (offsetsOn (entries wires offsets))) out₀ k out
+    (k ≤ length wires) × Stored (driven (net limits parent wire kind pin polarity) (offsetsOn (entries wires offsets))) out₀ k out
 
 abbrev μ-loop : tie.MeasureT-loop
 μ-loop limits parent wire kind pin polarity wires offsets first out₀ k₀ out k = length wires - k
 
 loop-holds : tie.Need-loop-holds Inv-loop μ-loop
-loop-holds c = (omega arith, filled-none)
+loop-holds c = (omega arith, stored-none)
 
 drives-requires : tie.Need-drives-requires Inv-loop μ-loop
 drives-requires c κs = record { placed = c .before .before .before .before .before .before .before .before .before .before .pre .0; within = omega arith }
@@ -36,13 +36,13 @@ loop-less : tie.Need-loop-less Inv-loop μ-loop
 loop-less c = omega arith
 
 loop-again : tie.Need-loop-again Inv-loop μ-loop
-loop-again c = (omega arith, filled-more (c .before .before .loop .inv .1) (omega (arith, c .before .before .before .before .before .before .before .before .before .before .before .pre .1)) (omega (arith, driven-length (c .before .before .before .before .before .before .before .before .before .before .before .pre .0))) _ (c .drives .ensures))
+loop-again c = (omega arith, stored-more (c .before .before .loop .inv .1) (omega (arith, c .before .before .before .before .before .before .before .before .before .before .before .pre .1)) (omega (arith, driven-length (c .before .before .before .before .before .before .before .before .before .before .before .pre .0))) _ (c .drives .ensures))
 
 same-length : tie.Need-same-length Inv-loop μ-loop
 same-length c = c .before .loop .inv .1 .long
 
 returns : tie.Need-returns Inv-loop μ-loop
-returns c = let m = driven-length (c .before .before .before .before .before .before .before .before .before .before .pre .0) in filled-all (c .before .loop .inv .1) (omega (arith, m)) (omega (arith, m, c .before .before .before .before .before .before .before .before .before .before .pre .1))
+returns c = let m = driven-length (c .before .before .before .before .before .before .before .before .before .before .pre .0) in stored-all (c .before .loop .inv .1) (omega (arith, m)) (omega (arith, m, c .before .before .before .before .before .before .before .before .before .before .pre .1))
 
 pub fill-drives-spec : {M : Type 1} → statement M
 fill-drives-spec =

@@ -28,12 +28,12 @@ first-entries-requires c κs =
 fill-drives-requires : tie.Need-fill-drives-requires
 fill-drives-requires c κs =
     let s = begun-says _ (c .before .before .before .before .before .before .before .before .before .before .before .before .before .before .before .before .args .wires .now) (c .before .before .before .before .before .before .before .before .before .before .before .before .before .before .before .before .args .offsets .now) _ (c .before .before .before .before .before .before .before .begin .ensures) (c .before .before .before .before .before .enum-told .given .1) in
-    (stood-placed s (c .before .before .first-entries .ensures), c .before .before .before .before .if1 .left)
+    (stood-placed s (c .before .before .first-entries .ensures .firsts), c .before .before .before .before .if1 .left)
 
 load-below-requires : tie.Need-load-below-requires
 load-below-requires c κs =
     let s = begun-says _ (c .before .before .before .before .before .before .before .before .before .before .before .before .before .before .before .before .before .before .before .before .args .wires .now) (c .before .before .before .before .before .before .before .before .before .before .before .before .before .before .before .before .before .before .before .before .args .offsets .now) _ (c .before .before .before .before .before .before .before .before .before .before .before .begin .ensures) (c .before .before .before .before .before .before .before .before .before .enum-told .given .1) in
-    record { placed = stood-placed s (c .before .before .before .before .before .before .first-entries .ensures); within = s .sound .some }
+    record { placed = stood-placed s (c .before .before .before .before .before .before .first-entries .ensures .firsts); within = s .sound .some }
 
 same-length : tie.Need-same-length
 same-length c = search needs

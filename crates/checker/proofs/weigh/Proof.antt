@@ -11,28 +11,28 @@ first-entries-requires : tie.Need-first-entries-requires
 first-entries-requires c κs = (stood-rising (c .before .before .before .before .before .before .before .before .pre), (c .before .before .before .before .before .before .before .before .pre .sound .few, refl))
 
 entries-within-limit-requires : tie.Need-entries-within-limit-requires
-entries-within-limit-requires c κs = (stood-placed (c .before .before .before .before .before .before .before .before .before .before .pre) (c .before .first-entries .ensures))
+entries-within-limit-requires c κs = (stood-placed (c .before .before .before .before .before .before .before .before .before .before .pre) (c .before .first-entries .ensures .firsts))
 
 enum-known-loads : tie.Need-enum-known-loads
 enum-known-loads c = search needs
 
 returns : tie.Need-returns
-returns c = loads-over (stood-placed (c .before .before .before .before .before .before .before .before .before .before .before .before .before .before .pre) (c .before .before .before .before .before .first-entries .ensures)) _ (c .before .before .before .entries-within-limit .ensures) _ (c .before .loads .given .1)
+returns c = loads-over (stood-placed (c .before .before .before .before .before .before .before .before .before .before .before .before .before .before .pre) (c .before .before .before .before .before .first-entries .ensures .firsts)) _ (c .before .before .before .entries-within-limit .ensures) _ (c .before .loads .given .1)
 
 enum-told : tie.Need-enum-told
 enum-told c = search needs
 
 load-below-requires : tie.Need-load-below-requires
-load-below-requires c κs = record { placed = (stood-placed (c .before .before .before .before .before .before .before .before .before .before .before .before .before .before .pre) (c .before .before .before .before .before .first-entries .ensures)); within = c .before .before .before .before .before .before .before .before .before .before .before .before .before .before .pre .sound .some }
+load-below-requires c κs = record { placed = (stood-placed (c .before .before .before .before .before .before .before .before .before .before .before .before .before .before .pre) (c .before .before .before .before .before .first-entries .ensures .firsts)); within = c .before .before .before .before .before .before .before .before .before .before .before .before .before .before .pre .sound .some }
 
 cast-most : tie.Need-cast-most
 cast-most c = search needs
 
 returns-2 : tie.Need-returns-2
-returns-2 c = source-over (stood-placed (c .before .before .before .before .before .before .before .before .before .before .before .before .before .before .before .before .before .pre) (c .before .before .before .before .before .before .before .before .first-entries .ensures)) _ (c .before .before .before .before .before .before .entries-within-limit .ensures) (c .before .before .before .before .enum-told .given .1) _ (c .before .before .load-below .ensures) (c .if1 .taken)
+returns-2 c = source-over (stood-placed (c .before .before .before .before .before .before .before .before .before .before .before .before .before .before .before .before .before .pre) (c .before .before .before .before .before .before .before .before .first-entries .ensures .firsts)) _ (c .before .before .before .before .before .before .entries-within-limit .ensures) (c .before .before .before .before .enum-told .given .1) _ (c .before .before .load-below .ensures) (c .if1 .taken)
 
 turns-requires : tie.Need-turns-requires
-turns-requires c κs = ((stood-placed (c .before .before .before .before .before .before .before .before .before .before .before .before .before .before .before .before .before .before .before .pre) (c .before .before .before .before .before .before .before .before .before .before .first-entries .ensures)), refl)
+turns-requires c κs = ((stood-placed (c .before .before .before .before .before .before .before .before .before .before .before .before .before .before .before .before .before .before .before .pre) (c .before .before .before .before .before .before .before .before .before .before .first-entries .ensures .firsts)), refl)
 
 one-sense-requires : tie.Need-one-sense-requires
 one-sense-requires c κs = (c .before .before .before .before .before .before .before .before .before .before .before .before .before .before .before .before .before .before .before .before .before .pre .sound, c .before .turns .ensures)
@@ -41,13 +41,13 @@ enum-known-senses : tie.Need-enum-known-senses
 enum-known-senses c = search needs
 
 returns-3 : tie.Need-returns-3
-returns-3 c = senses-over (stood-placed (c .before .before .before .before .before .before .before .before .before .before .before .before .before .before .before .before .before .before .before .before .before .before .before .before .before .pre) (c .before .before .before .before .before .before .before .before .before .before .before .before .before .before .before .before .first-entries .ensures)) _ (c .before .before .before .before .before .before .before .before .before .before .before .before .before .before .entries-within-limit .ensures) (c .before .before .before .before .before .before .before .before .before .before .before .before .enum-told .given .1) _ (c .before .before .before .before .before .before .before .before .before .before .load-below .ensures) (c .before .before .before .before .before .before .before .before .if1 .left) _ (c .before .before .before .one-sense .ensures) _ (c .before .senses .given .1)
+returns-3 c = senses-over (stood-placed (c .before .before .before .before .before .before .before .before .before .before .before .before .before .before .before .before .before .before .before .before .before .before .before .before .before .pre) (c .before .before .before .before .before .before .before .before .before .before .before .before .before .before .before .before .first-entries .ensures .firsts)) _ (c .before .before .before .before .before .before .before .before .before .before .before .before .before .before .entries-within-limit .ensures) (c .before .before .before .before .before .before .before .before .before .before .before .before .enum-told .given .1) _ (c .before .before .before .before .before .before .before .before .before .before .load-below .ensures) (c .before .before .before .before .before .before .before .before .if1 .left) _ (c .before .before .before .one-sense .ensures) _ (c .before .senses .given .1)
 
 enum-told-2 : tie.Need-enum-told-2
 enum-told-2 c = search needs
 
 returns-4 : tie.Need-returns-4
-returns-4 c = all-legal (stood-placed (c .before .before .before .before .before .before .before .before .before .before .before .before .before .before .before .before .before .before .before .before .before .before .before .before .pre) (c .before .before .before .before .before .before .before .before .before .before .before .before .before .before .before .first-entries .ensures)) _ (c .before .before .before .before .before .before .before .before .before .before .before .before .before .entries-within-limit .ensures) (c .before .before .before .before .before .before .before .before .before .before .before .enum-told .given .1) _ (c .before .before .before .before .before .before .before .before .before .load-below .ensures) (c .before .before .before .before .before .before .before .if1 .left) _ (c .before .before .one-sense .ensures) (c .enum-told2 .given .1)
+returns-4 c = all-legal (stood-placed (c .before .before .before .before .before .before .before .before .before .before .before .before .before .before .before .before .before .before .before .before .before .before .before .before .pre) (c .before .before .before .before .before .before .before .before .before .before .before .before .before .before .before .first-entries .ensures .firsts)) _ (c .before .before .before .before .before .before .before .before .before .before .before .before .before .entries-within-limit .ensures) (c .before .before .before .before .before .before .before .before .before .before .before .enum-told .given .1) _ (c .before .before .before .before .before .before .before .before .before .load-below .ensures) (c .before .before .before .before .before .before .before .if1 .left) _ (c .before .before .one-sense .ensures) (c .enum-told2 .given .1)
 
 pub weigh-spec : {M : Type 1} → statement M
 weigh-spec =

@@ -10,7 +10,7 @@ use Rattle.load.proofs.first_entries.Reads as reads
 use Rattle.load.proofs.first_entries.Lts as lts
 
 abbrev Inv-loop : tie.InvT-loop
-Inv-loop wires places first₀ i₀ k₀ first i k = Filling wires places first i k
+Inv-loop wires places first₀ i₀ k₀ first i k = Filling wires places first₀ first i k
 
 abbrev μ-loop : tie.MeasureT-loop
 μ-loop wires places first₀ i₀ k₀ first i k = (places + 1 - i) + (length wires - k)
