@@ -54,7 +54,8 @@ static struct ref_answer judge(struct ref_limits limits, struct net_columns net)
 {
     struct limits l = limits_of(limits);
     struct columns c = judged_columns(net);
-    return turned(c_judge(&l, &c));
+    struct answer judged = c_judge(&l, &c);
+    return judged.number == 0 ? (struct ref_answer){0, 0} : turned(judged);
 }
 
 static struct ref_answer solve(struct ref_limits limits, struct net_columns net,

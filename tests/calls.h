@@ -23,7 +23,7 @@ struct entry_columns {
 };
 
 /* Each answers number and place; on success number is 0 and place what the call answers: places
-   filled, bytes written, or the count. A call that is not there is NULL. */
+   filled, bytes written, or the count (the judge's is 0). A call that is not there is NULL. */
 struct calls {
     const char *name;
     struct ref_answer (*read_net)(const uint8_t *bytes, size_t length,
@@ -39,7 +39,7 @@ struct calls {
                                struct entry_columns to);
     struct ref_answer (*check)(struct ref_limits limits, struct net_columns net,
                                struct entry_columns placement, uint64_t *source);
-    /* As check, then 9 for the lent column; on success the loads stand in it. */
+    /* As check without 11 and 12, then 9 for the lent column; on success the loads stand in it. */
     struct ref_answer (*drives)(struct ref_limits limits, struct net_columns net,
                                 struct entry_columns placement,
                                 uint64_t *drives, size_t room, uint64_t *source);

@@ -21,8 +21,9 @@ static size_t room_of(struct net_columns c)
 
 static struct ref_answer judge(struct ref_limits limits, struct net_columns c)
 {
-    return ref_judge(limits, c.parent, c.parents, c.wire, c.wires, c.kind, c.kinds,
-                     c.pin, c.pins, c.polarity, c.polarities);
+    struct ref_answer judged = ref_judge(limits, c.parent, c.parents, c.wire, c.wires, c.kind,
+                                         c.kinds, c.pin, c.pins, c.polarity, c.polarities);
+    return judged.number == 0 ? answer(0, 0) : judged;
 }
 
 /* The columns of a judged net as a net. */
@@ -132,21 +133,15 @@ static struct ref_answer solve(struct ref_limits limits, struct net_columns c,
     return answer(0, (uint64_t)least);
 }
 
-static struct ref_answer check_with(struct ref_limits limits, struct net_columns c,
-                                    struct entry_columns e, uint64_t *drives, uint64_t *source)
+static struct ref_answer check(struct ref_limits limits, struct net_columns c,
+                               struct entry_columns e, uint64_t *source)
 {
     static struct ref_net net;
     struct ref_answer judged = judge(limits, c);
     if (judged.number != 0)
         return judged;
     take(&net, limits, c);
-    return ref_check(&net, e.wire, e.wires, e.offset, e.offsets, drives, source);
-}
-
-static struct ref_answer check(struct ref_limits limits, struct net_columns c,
-                               struct entry_columns e, uint64_t *source)
-{
-    return check_with(limits, c, e, NULL, source);
+    return ref_check(&net, e.wire, e.wires, e.offset, e.offsets, NULL, source);
 }
 
 static struct ref_answer drives(struct ref_limits limits, struct net_columns c,
@@ -154,8 +149,13 @@ static struct ref_answer drives(struct ref_limits limits, struct net_columns c,
                                 uint64_t *source)
 {
     static uint64_t made[REF_ENTRIES];
+    static struct ref_net net;
     uint64_t load = 0;
-    struct ref_answer result = check_with(limits, c, e, made, &load);
+    struct ref_answer result = judge(limits, c);
+    if (result.number != 0)
+        return result;
+    take(&net, limits, c);
+    result = ref_list_drives(&net, e.wire, e.wires, e.offset, e.offsets, made, &load);
     if (result.number != 0)
         return result;
     if (room < e.wires)

@@ -337,22 +337,50 @@ static struct ref_answer judge_parity(const struct check *check)
     return answer(0, check->entries);
 }
 
-/* 10, 11, 12 of a placement whose columns are equal and within 4,096. */
-static struct ref_answer judge_placement(struct check *check, uint64_t *drives, uint64_t *source)
+/* The net's refusals, 7 and 10; then the loads are in *check and the source's in *source. */
+static struct ref_answer weigh(struct check *check, const struct ref_net *net,
+                               const uint16_t *wire, size_t wires,
+                               const uint32_t *offset, size_t offsets, uint64_t *source)
 {
-    for (size_t entry = 0; entry < check->entries; entry++)
+    struct ref_answer judged = ref_judge_net(net);
+    if (judged.number != 0)
+        return judged;
+    if (wires != offsets || wires > REF_ENTRIES)
+        return answer(7, 0);
+    check->net = net;
+    check->wire = wire;
+    check->offset = offset;
+    check->entries = wires;
+    for (size_t entry = 0; entry < wires; entry++)
         if (misplaced(check, entry))
             return answer(10, entry);
     check->parity[0] = 0;
-    uint64_t load = load_below(check, 0);
+    *source = load_below(check, 0);
+    return answer(0, wires);
+}
+
+/* 11, then 12. */
+static struct ref_answer judge_loads(const struct check *check, uint64_t source)
+{
+    uint32_t limit = check->net->limits.limit;
     for (size_t entry = 0; entry < check->entries; entry++)
-        if (check->drives[entry] > check->net->limits.limit)
+        if (check->drives[entry] > limit)
             return answer(11, entry);
-    if (load > check->net->limits.limit)
-        return answer(11, check->entries);
-    struct ref_answer result = judge_parity(check);
+    return source > limit ? answer(11, check->entries) : judge_parity(check);
+}
+
+static struct ref_answer check_or_list(bool listing, const struct ref_net *net,
+                                       const uint16_t *wire, size_t wires,
+                                       const uint32_t *offset, size_t offsets,
+                                       uint64_t *drives, uint64_t *source)
+{
+    static struct check check;
+    uint64_t load = 0;
+    struct ref_answer result = weigh(&check, net, wire, wires, offset, offsets, &load);
+    if (result.number == 0 && !listing)
+        result = judge_loads(&check, load);
     if (result.number == 0 && drives != NULL)
-        memcpy(drives, check->drives, check->entries * sizeof *drives);
+        memcpy(drives, check.drives, wires * sizeof *drives);
     if (result.number == 0 && source != NULL)
         *source = load;
     return result;
@@ -363,17 +391,15 @@ struct ref_answer ref_check(const struct ref_net *net,
                             const uint32_t *offset, size_t offsets,
                             uint64_t *drives, uint64_t *source)
 {
-    struct ref_answer judged = ref_judge_net(net);
-    if (judged.number != 0)
-        return judged;
-    if (wires != offsets || wires > REF_ENTRIES)
-        return answer(7, 0);
-    static struct check check;
-    check.net = net;
-    check.wire = wire;
-    check.offset = offset;
-    check.entries = wires;
-    return judge_placement(&check, drives, source);
+    return check_or_list(false, net, wire, wires, offset, offsets, drives, source);
+}
+
+struct ref_answer ref_list_drives(const struct ref_net *net,
+                                  const uint16_t *wire, size_t wires,
+                                  const uint32_t *offset, size_t offsets,
+                                  uint64_t *drives, uint64_t *source)
+{
+    return check_or_list(true, net, wire, wires, offset, offsets, drives, source);
 }
 
 uint32_t ref_check_files(const uint8_t *net, size_t net_length,

@@ -53,6 +53,11 @@ struct ref_answer ref_check(const struct ref_net *net,
                             const uint16_t *wire, size_t wires,
                             const uint32_t *offset, size_t offsets,
                             uint64_t *drives, uint64_t *source);
+/* As ref_check without 11 and 12: what a placement drives that stands on its wires. */
+struct ref_answer ref_list_drives(const struct ref_net *net,
+                                  const uint16_t *wire, size_t wires,
+                                  const uint32_t *offset, size_t offsets,
+                                  uint64_t *drives, uint64_t *source);
 uint32_t ref_check_files(const uint8_t *net, size_t net_length,
                          const uint8_t *placement, size_t placement_length);
 

@@ -1,0 +1,30 @@
+/* The proved calls behind the calls of calls.h, and the functions of crate proved_calls that make
+   them: a slice is a pointer and then a length. */
+#ifndef PROVED_CALLS_H
+#define PROVED_CALLS_H
+
+#include "calls.h"
+
+uint32_t proved_judge(uint32_t limit, uint32_t cb, uint8_t repeater,
+                      const uint16_t *parent, size_t parents, const uint32_t *wire, size_t wires,
+                      const uint8_t *kind, size_t kinds, const uint32_t *pin, size_t pins,
+                      const uint8_t *polarity, size_t polarities, uint64_t *place);
+
+uint32_t proved_check(uint32_t limit, uint32_t cb, uint8_t repeater,
+                      const uint16_t *parent, size_t parents, const uint32_t *wire, size_t wires,
+                      const uint8_t *kind, size_t kinds, const uint32_t *pin, size_t pins,
+                      const uint8_t *polarity, size_t polarities,
+                      const uint16_t *entry_wire, size_t entry_wires,
+                      const uint32_t *offset, size_t offsets, uint64_t *source, uint64_t *place);
+uint32_t proved_list_drives(uint32_t limit, uint32_t cb, uint8_t repeater,
+                            const uint16_t *parent, size_t parents,
+                            const uint32_t *wire, size_t wires, const uint8_t *kind, size_t kinds,
+                            const uint32_t *pin, size_t pins,
+                            const uint8_t *polarity, size_t polarities,
+                            const uint16_t *entry_wire, size_t entry_wires,
+                            const uint32_t *offset, size_t offsets,
+                            uint64_t *out, size_t room, uint64_t *source, uint64_t *place);
+
+extern const struct calls proved_calls;
+
+#endif
