@@ -1,0 +1,391 @@
+// A net file, read into five lent columns, and written from them: document 01, "Files".
+ghost use mathlib.Core.Path.{_≡_};
+ghost use mathlib.Core.List.{[], _∷_};
+ghost use Prim.Native.Nat.{_+_, _-_, _<_, _≤_, _^_, min};
+ghost use lib.ListN.{length, getD};
+ghost use lib.Dec.{leb};
+ghost use lib.Seq.{sets};
+ghost use Rattle.net.specs.Net.{netAt, places};
+ghost use Rattle.net.specs.Judge.{unless, thenJudge, childedBy};
+ghost use Rattle.net.specs.Counted.{unlimited, Within, Level};
+ghost use Rattle.field.specs.Format.{fieldAt, bytesOf};
+ghost use Rattle.net_file.specs.NetFile.{cutAt, frontValue, frontOf, nodeDue, takenValue, takenAt, netFrom, netOf, told, fieldsFrom, nodesOf, columnsOf, source, laidOver, ReadNet, fieldOf, netBytes, WroteNet};
+use field::Field;
+use field::FieldRead;
+use field::Value;
+use field::Wrote;
+use net::Judged;
+use net::Limits;
+use net::Node;
+use net::Refusal;
+
+// What stands at the front of a net file.
+pub enum Front {
+    Limits(Limits),
+    Refused(Refusal),
+}
+
+// What stands at a later place: a node or the end, with the place after it, or neither.
+pub enum Taken {
+    Node(Node, usize),
+    End(usize),
+    Refused(Refusal),
+}
+
+// What the reader answers.
+pub enum NetRead {
+    Read { limits: Limits, places: usize },
+    Refused(Refusal),
+}
+
+// What the writer answers.
+pub enum NetWrote {
+    Written(usize),
+    Refused(Refusal),
+}
+
+fn cut(due: bool, place: usize) -> Refusal
+    ensures { λ r. ⌜ r ≡ cutAt due place ⌝ }
+{
+    if due {
+        Refusal::FileEnds(place)
+    } else {
+        Refusal::NotDue(place)
+    }
+}
+
+fn front_of(f: Field) -> Front
+    ensures { λ r. ⌜ r ≡ frontValue (f .at) (f .value) ⌝ }
+{
+    let at = f.at;
+    let value = f.value;
+    let Value::Limits(l) = value else {
+        return Front::Refused(Refusal::NotDue(at));
+    };
+    if !net::limits_in_range(l) {
+        return Front::Refused(Refusal::OutOfRange(at));
+    }
+    Front::Limits(l)
+}
+
+// The limits at the front of a file.
+fn read_front(s: &[u8]) -> Front
+    ensures { λ r. ⌜ r ≡ frontOf (fieldAt (now (s .entry)) 0) ⌝ }
+{
+    let got = field::read_field(s, 0);
+    match got {
+        FieldRead::Got(f) => front_of(f),
+        FieldRead::Cut { tag, place } => Front::Refused(cut(tag == 1, place)),
+        FieldRead::Refused(r) => Front::Refused(r),
+    }
+}
+
+fn node_due(tag: u8) -> bool
+    ensures { λ r. ⌜ r ≡ nodeDue tag ⌝ }
+{
+    match tag {
+        2 => true,
+        3 => true,
+        _ => tag == 127,
+    }
+}
+
+fn taken_of(f: Field) -> Taken
+    requires { ⌜ f .at + 14 < 2 ^ 64 ⌝ }
+    ensures { λ r. ⌜ r ≡ takenValue (f .at) (f .value) ⌝ }
+{
+    let at = f.at;
+    let value = f.value;
+    if let Value::Branch { parent, wire } = value {
+        return Taken::Node(
+            Node {
+                parent: parent,
+                wire: wire,
+                kind: 0,
+                pin: 0,
+                polarity: 0,
+            },
+            at + 9,
+        );
+    }
+    if let Value::Sink {
+        parent,
+        wire,
+        pin,
+        polarity,
+    } = value {
+        return Taken::Node(
+            Node {
+                parent: parent,
+                wire: wire,
+                kind: 1,
+                pin: pin,
+                polarity: polarity,
+            },
+            at + 14,
+        );
+    }
+    if let Value::End = value {
+        return Taken::End(at + 3);
+    }
+    Taken::Refused(Refusal::NotDue(at))
+}
+
+// A node, or the end, at a later place of a file.
+fn take_node(s: &[u8], at: usize) -> Taken
+    ensures { λ r. ⌜ r ≡ takenAt (now (s .entry)) at ⌝ }
+{
+    let got = field::read_field(s, at);
+    match got {
+        FieldRead::Got(f) => taken_of(f),
+        FieldRead::Cut { tag, place } => Taken::Refused(cut(node_due(tag), place)),
+        FieldRead::Refused(r) => Taken::Refused(r),
+    }
+}
+
+// After the end of a file of n nodes: 6, then 5.
+fn finish(s: &[u8], next: usize, kinds: &[u8], counts: &[u8; 1025], n: usize) -> Judged
+    requires { ⌜ (n ≤ length (now kinds)) × (length (now counts) ≡ 1025) × (n ≤ 1025) ⌝ }
+    ensures { λ r. ⌜ r ≡ thenJudge (unless (leb (length (now (s .entry))) next) (Refusal.BytesAfterEnd next)) (childedBy (λ j. getD (now (kinds .entry)) j 0) (λ j. getD (now (counts .entry)) j 0) n) ⌝ }
+{
+    if next < s.len() {
+        return Judged::Refused(Refusal::BytesAfterEnd(next));
+    }
+    net::all_childed(kinds, counts, n)
+}
+
+// The fields after the limits, judged one by one over the kinds of the nodes so far and the children that each has.
+fn judge_fields(s: &[u8], l: Limits) -> NetRead
+    ensures { λ r. ⌜ r ≡ told (netFrom (now (s .entry)) l) ⌝ }
+{
+    let mut kinds = [0u8; 1025];
+    let mut counts = [0u8; 1025];
+    let mut at: usize = 12;
+    let mut i: usize = 1;
+    loop {
+        let taken = take_node(s, at);
+        match taken {
+            Taken::Node(d, next) => {
+                let here = net::admit(l, d, i, &kinds, &counts, at);
+                if let Judged::Refused(r) = here {
+                    return NetRead::Refused(r);
+                }
+                net::tally(&mut counts, d.parent as usize);
+                kinds[i] = d.kind;
+                i += 1;
+                at = next;
+            }
+            Taken::End(next) => {
+                let end = finish(s, next, &kinds, &counts, i);
+                if let Judged::Refused(r) = end {
+                    return NetRead::Refused(r);
+                }
+                return NetRead::Read {
+                    limits: l,
+                    places: i,
+                };
+            }
+            Taken::Refused(r) => {
+                return NetRead::Refused(r);
+            }
+        }
+    }
+}
+
+// A whole file, judged.
+fn judge_file(s: &[u8]) -> NetRead
+    ensures { λ r. ⌜ r ≡ told (netOf (now (s .entry))) ⌝ }
+{
+    let front = read_front(s);
+    match front {
+        Front::Limits(l) => judge_fields(s, l),
+        Front::Refused(r) => NetRead::Refused(r),
+    }
+}
+
+fn put_node(
+    d: Node,
+    i: usize,
+    parent: &mut [u16],
+    wire: &mut [u32],
+    kind: &mut [u8],
+    pin: &mut [u32],
+    polarity: &mut [u8],
+)
+    requires { ⌜ Within i (now parent) (now wire) (now kind) (now pin) (now polarity) ⌝ }
+    ensures { λ _. ⌜ netAt unlimited (parent .exit) (wire .exit) (kind .exit) (pin .exit) (polarity .exit) ≡ laidOver (netAt unlimited (parent .entry) (wire .entry) (kind .entry) (pin .entry) (polarity .entry)) i (columnsOf unlimited (d ∷ [])) ⌝ }
+{
+    parent[i] = d.parent;
+    wire[i] = d.wire;
+    kind[i] = d.kind;
+    pin[i] = d.pin;
+    polarity[i] = d.polarity;
+}
+
+// Fills the columns: the source, and the nodes that the file has from byte 12 on.
+fn fill(
+    s: &[u8],
+    places: usize,
+    parent: &mut [u16],
+    wire: &mut [u32],
+    kind: &mut [u8],
+    pin: &mut [u32],
+    polarity: &mut [u8],
+)
+    requires { ⌜ (1 ≤ places) × Within (places - 1) (now parent) (now wire) (now kind) (now pin) (now polarity) ⌝ }
+    ensures { λ _. ⌜ netAt unlimited (parent .exit) (wire .exit) (kind .exit) (pin .exit) (polarity .exit) ≡ laidOver (netAt unlimited (parent .entry) (wire .entry) (kind .entry) (pin .entry) (polarity .entry)) 0 (columnsOf unlimited (source ∷ nodesOf (fieldsFrom (places - 1) (now (s .entry)) 12))) ⌝ }
+{
+    let nothing = Node {
+        parent: 0,
+        wire: 0,
+        kind: 0,
+        pin: 0,
+        polarity: 0,
+    };
+    put_node(nothing, 0, parent, wire, kind, pin, polarity);
+    let mut at: usize = 12;
+    let mut i: usize = 1;
+    while i < places {
+        let taken = take_node(s, at);
+        let Taken::Node(d, next) = taken else {
+            return;
+        };
+        put_node(d, i, parent, wire, kind, pin, polarity);
+        at = next;
+        i += 1;
+    }
+}
+
+fn lower(a: usize, b: usize) -> usize
+    ensures { λ r. ⌜ r ≡ min a b ⌝ }
+{
+    if a <= b { a } else { b }
+}
+
+// The room: the shortest column.
+fn shortest(parent: usize, wire: usize, kind: usize, pin: usize, polarity: usize) -> usize
+    ensures { λ r. ⌜ r ≡ min parent (min wire (min kind (min pin polarity))) ⌝ }
+{
+    lower(parent, lower(wire, lower(kind, lower(pin, polarity))))
+}
+
+// Reads a net file into five lent columns: judges all of it, and then fills them.
+pub fn read_net(
+    s: &[u8],
+    parent: &mut [u16],
+    wire: &mut [u32],
+    kind: &mut [u8],
+    pin: &mut [u32],
+    polarity: &mut [u8],
+) -> NetRead
+    ensures { λ r. ⌜ ReadNet (now (s .entry)) (netAt unlimited (parent .entry) (wire .entry) (kind .entry) (pin .entry) (polarity .entry)) (netAt unlimited (parent .exit) (wire .exit) (kind .exit) (pin .exit) (polarity .exit)) r ⌝ }
+{
+    let judged = judge_file(s);
+    let NetRead::Read { limits: _, places } = judged else {
+        return judged;
+    };
+    let most = shortest(
+        parent.len(),
+        wire.len(),
+        kind.len(),
+        pin.len(),
+        polarity.len(),
+    );
+    if most < places {
+        return NetRead::Refused(Refusal::NoRoom(places as u64));
+    }
+    fill(s, places, parent, wire, kind, pin, polarity);
+    judged
+}
+
+// The field of a node.
+fn value_of(d: Node) -> Value
+    ensures { λ r. ⌜ r ≡ fieldOf d ⌝ }
+{
+    if d.kind == 1 {
+        return Value::Sink {
+            parent: d.parent,
+            wire: d.wire,
+            pin: d.pin,
+            polarity: d.polarity,
+        };
+    }
+    Value::Branch {
+        parent: d.parent,
+        wire: d.wire,
+    }
+}
+
+// The bytes of a file with these nodes: 15 for the limits and the end.
+fn net_size(parent: &[u16], wire: &[u32], kind: &[u8], pin: &[u32], polarity: &[u8]) -> usize
+    requires { ⌜ Level (netAt unlimited parent wire kind pin polarity) ⌝ }
+    ensures { λ r. ⌜ r ≡ length (netBytes (netAt unlimited (parent .entry) (wire .entry) (kind .entry) (pin .entry) (polarity .entry))) ⌝ }
+{
+    let mut size: usize = 15;
+    let mut i: usize = 1;
+    while i < parent.len() {
+        let d = net::node_at(parent, wire, kind, pin, polarity, i);
+        size += field::size(value_of(d));
+        i += 1;
+    }
+    size
+}
+
+// A field at the front of what is lent, which has room for it.
+fn put_field(out: &mut [u8], v: Value) -> usize
+    requires { ⌜ length (bytesOf v) ≤ length (now out) ⌝ }
+    ensures { λ r. ⌜ (r ≡ length (bytesOf v)) × (now (out .exit) ≡ sets (now (out .entry)) 0 (bytesOf v)) ⌝ }
+{
+    let wrote = field::write_field(out, v);
+    let Wrote::Bytes(size) = wrote else {
+        return 0;
+    };
+    size
+}
+
+// Each field goes into the part of the buffer that begins where the last one ended.
+fn put_fields(
+    l: Limits,
+    parent: &[u16],
+    wire: &[u32],
+    kind: &[u8],
+    pin: &[u32],
+    polarity: &[u8],
+    out: &mut [u8],
+)
+    requires { ⌜ Level (netAt unlimited parent wire kind pin polarity) × (length (netBytes (netAt l parent wire kind pin polarity)) ≤ length (now out)) ⌝ }
+    ensures { λ _. ⌜ now (out .exit) ≡ sets (now (out .entry)) 0 (netBytes (netAt l (parent .entry) (wire .entry) (kind .entry) (pin .entry) (polarity .entry))) ⌝ }
+{
+    let mut at = put_field(out, Value::Limits(l));
+    let mut i: usize = 1;
+    while i < parent.len() {
+        let d = net::node_at(parent, wire, kind, pin, polarity, i);
+        at += put_field(&mut out[at..], value_of(d));
+        i += 1;
+    }
+    put_field(&mut out[at..], Value::End);
+}
+
+// Writes a net's file: judges the net, then the room, and then fills the buffer.
+pub fn write_net(
+    limits: Limits,
+    parent: &[u16],
+    wire: &[u32],
+    kind: &[u8],
+    pin: &[u32],
+    polarity: &[u8],
+    out: &mut [u8],
+) -> NetWrote
+    ensures { λ r. ⌜ WroteNet (netAt limits (parent .entry) (wire .entry) (kind .entry) (pin .entry) (polarity .entry)) (now (out .entry)) (now (out .exit)) r ⌝ }
+{
+    let judged = net::judge(limits, parent, wire, kind, pin, polarity);
+    if let Judged::Refused(r) = judged {
+        return NetWrote::Refused(r);
+    }
+    let size = net_size(parent, wire, kind, pin, polarity);
+    if out.len() < size {
+        return NetWrote::Refused(Refusal::NoRoom(size as u64));
+    }
+    put_fields(limits, parent, wire, kind, pin, polarity, out);
+    NetWrote::Written(size)
+}
