@@ -1,0 +1,164 @@
+-- Document 01, "Files": what a placement file says, what two columns say, and what the reader and the writer answer and leave.
+use Prim.Native.Nat.{ℕ, zero, suc, _+_, _*_, min}
+use mathlib.Core.Path.{_≡_}
+use mathlib.Core.List.{List, [], _∷_, _++_, map}
+use mathlib.Core.Bool.{Bool}
+use lib.ListN.{length, getD}
+use lib.Dec.{ltb, leb, eqb}
+use lib.Seq.{sets}
+use Rattle.net.specs.Figures.{mostNodes, mostWire, mostEntries}
+use Rattle.net.specs.Choose.{pick, both}
+use Rattle.net.specs.Refusal.{numberOf, placeOf}
+use Rattle.net.specs.Judge.{unless, thenJudge, judgeEach}
+use Rattle.net.specs.Load.{entries}
+use Rattle.net.specs.Checked.{placementFits}
+use Rattle.net.specs.declared.Entry.{Entry}
+use Rattle.net.specs.declared.Refusal.{Refusal}
+use Rattle.net.specs.declared.Refusal.the-variants.{FileEnds, NotDue, OutOfRange, BytesAfterEnd, WrongColumns, NoRoom}
+use Rattle.net.specs.declared.Judged.{Judged}
+use Rattle.net.specs.declared.Judged.the-variants.{Sound, Refused as Unsound}
+use Rattle.field.specs.Format.{tagOf, numbersOf, fieldAt, bytesOf, wrote, laid}
+use Rattle.field.specs.declared.Value.the-variants.{Count, Entry as AnEntry, End}
+use Rattle.field.specs.declared.FieldRead.{FieldRead}
+use Rattle.field.specs.declared.FieldRead.the-variants.{Got, Cut, Refused as NoField}
+use Rattle.field.specs.declared.Wrote.{Wrote}
+use Rattle.field.specs.declared.Wrote.the-variants.{Refused as NotWritten}
+use Rattle.placement_file.specs.declared.PlacementRead.{PlacementRead}
+use Rattle.placement_file.specs.declared.PlacementRead.the-variants.{Read, Refused}
+
+-- ---- one field
+
+-- a field of this tag is due: "a short header 1, then 2, then a short body 1"
+abbrev pub due : ℕ → FieldRead → Judged
+due tag (Got f) = unless (eqb (tagOf (f .value)) tag) (NotDue (f .at))
+due tag (Cut t place) = Unsound (pick (eqb t tag) (FileEnds place) (NotDue place))
+due tag (NoField r) = Unsound r
+
+-- the numbers in it; none where another stands
+abbrev pub numbersIn : ℕ → FieldRead → List ℕ
+numbersIn tag (Got f) = pick (eqb (tagOf (f .value)) tag) (numbersOf (f .value)) []
+numbersIn tag (Cut t place) = []
+numbersIn tag (NoField r) = []
+
+abbrev pub countIn : FieldRead → ℕ
+countIn r = getD (numbersIn 17 r) 0 0
+
+abbrev pub entryIn : FieldRead → Entry
+entryIn r = record { wire = getD (numbersIn 18 r) 0 0; offset = getD (numbersIn 18 r) 1 0 }
+
+-- "wire numbers run 1 to 1,024 and offsets to 10,000,000"
+abbrev pub entryInRange : Entry → Bool
+entryInRange e = both (ltb 0 (e .wire)) (both (leb (e .wire) mostNodes) (leb (e .offset) mostWire))
+
+-- ---- a file: "one 11, that many 12, then 7F"
+
+-- entries: 0 to 4,096
+unfoldable pub owed : List ℕ → ℕ
+owed s = countIn (fieldAt s 0)
+
+unfoldable pub countJudged : List ℕ → Judged
+countJudged s = thenJudge (due 17 (fieldAt s 0)) (unless (leb (owed s) mostEntries) (OutOfRange 0))
+
+-- the byte where entry i starts, and where the end does after i entries
+abbrev pub startOf : ℕ → ℕ
+startOf i = 5 + 9 * i
+
+unfoldable pub entryAt : List ℕ → ℕ → Entry
+entryAt s i = entryIn (fieldAt s (startOf i))
+
+unfoldable pub entryJudged : List ℕ → ℕ → Judged
+entryJudged s i = thenJudge (due 18 (fieldAt s (startOf i))) (unless (entryInRange (entryAt s i)) (OutOfRange (startOf i)))
+
+-- "After 7F comes 6"
+unfoldable pub endJudged : List ℕ → ℕ → Judged
+endJudged s at = thenJudge (due 127 (fieldAt s at)) (unless (leb (length s) (at + 3)) (BytesAfterEnd (at + 3)))
+
+-- n entries and the end
+unfoldable pub bodyJudged : List ℕ → ℕ → Judged
+bodyJudged s n = thenJudge (judgeEach (entryJudged s) n 0) (endJudged s (startOf n))
+
+unfoldable pub fileJudged : List ℕ → Judged
+fileJudged s = thenJudge (countJudged s) (bodyJudged s (owed s))
+
+-- the two columns of a list, and k entries, from entry i on
+abbrev pub wire : Entry → ℕ
+wire e = e .wire
+
+abbrev pub offset : Entry → ℕ
+offset e = e .offset
+
+unfoldable pub listed : (ℕ → Entry) → ℕ → ℕ → List Entry
+listed f zero i = []
+listed f (suc k) i = f i ∷ listed f k (suc i)
+
+-- ---- what a file says, and what two columns say: the entries or the first refusal
+
+pub data Outcome : Type 0 where
+  placement : List Entry → Outcome
+  refused : Refusal → Outcome
+
+abbrev pub outcome : Judged → List Entry → Outcome
+outcome Sound es = placement es
+outcome (Unsound r) es = refused r
+
+unfoldable pub placementOf : List ℕ → Outcome
+placementOf s = outcome (fileJudged s) (listed (entryAt s) (owed s) 0)
+
+-- entry i of the columns; 3 at an entry
+abbrev pub columnEntry : List ℕ → List ℕ → ℕ → Entry
+columnEntry vs os i = record { wire = getD vs i 0; offset = getD os i 0 }
+
+unfoldable pub rangeJudged : List ℕ → List ℕ → ℕ → Judged
+rangeJudged vs os i = unless (entryInRange (columnEntry vs os i)) (OutOfRange i)
+
+abbrev pub rangesJudged : List ℕ → List ℕ → Judged
+rangesJudged vs os = judgeEach (rangeJudged vs os) (length vs) 0
+
+unfoldable pub columnsJudged : List ℕ → List ℕ → Judged
+columnsJudged vs os = thenJudge (unless (placementFits vs os) WrongColumns) (rangesJudged vs os)
+
+unfoldable pub columnsOf : List ℕ → List ℕ → Outcome
+columnsOf vs os = outcome (columnsJudged vs os) (entries vs os)
+
+-- ---- the reader
+
+-- "Columns lent to be filled may differ in length; the shortest is the room": 9 with the number of entries
+abbrev pub answer : ℕ → Outcome → PlacementRead
+answer room (refused r) = Refused r
+answer room (placement es) = pick (ltb room (length es)) (Refused (NoRoom (length es))) (Read (length es))
+
+-- "Success writes the needed places and no others", and a refusal none
+abbrev pub filled : ℕ → Outcome → (Entry → ℕ) → List ℕ → List ℕ
+filled room (refused r) f col = col
+filled room (placement es) f col = pick (ltb room (length es)) col (sets col 0 (map f es))
+
+pub record ReadAs (o : Outcome) (vs os vs′ os′ : List ℕ) (r : PlacementRead) : Type 0 where
+  pub answered : r ≡ answer (min (length vs) (length os)) o
+  pub wires : vs′ ≡ filled (min (length vs) (length os)) o wire vs
+  pub offsets : os′ ≡ filled (min (length vs) (length os)) o offset os
+
+-- 0 and the entries read, or a refusal's number and place
+abbrev pub readNumber : PlacementRead → ℕ
+readNumber (Read n) = 0
+readNumber (Refused r) = numberOf r
+
+abbrev pub readCount : PlacementRead → ℕ
+readCount (Read n) = n
+readCount (Refused r) = placeOf r
+
+-- ---- the writer
+
+unfoldable pub entriesBytes : List Entry → List ℕ
+entriesBytes [] = bytesOf End
+entriesBytes (e ∷ es) = bytesOf (AnEntry e) ++ entriesBytes es
+
+unfoldable pub placementBytes : List Entry → List ℕ
+placementBytes es = bytesOf (Count (length es)) ++ entriesBytes es
+
+abbrev pub written : Outcome → List ℕ → Wrote
+written (refused r) out = NotWritten r
+written (placement es) out = wrote (placementBytes es) out
+
+abbrev pub left : Outcome → List ℕ → List ℕ
+left (refused r) out = out
+left (placement es) out = laid (placementBytes es) out

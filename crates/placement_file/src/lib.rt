@@ -1,0 +1,292 @@
+// The placement file, read and written: document 01, "Files".
+ghost use mathlib.Core.Path.{_≡_};
+ghost use mathlib.Core.List.{map};
+ghost use Prim.Native.Nat.{_+_, _*_, _≤_, _<_};
+ghost use lib.ListN.{length};
+ghost use lib.Seq.{sets};
+ghost use Rattle.net.specs.Judge.{unless as orRefused, thenJudge};
+ghost use Rattle.net.specs.Load.{entries};
+ghost use Rattle.field.specs.Format.{tagOf, fieldAt, bytesOf};
+ghost use Rattle.placement_file.specs.File.{due, countIn, entryIn, entryInRange, owed, countJudged, entryAt, entryJudged, endJudged, bodyJudged, fileJudged, wire, offset, listed, placementOf, columnEntry, rangesJudged, columnsJudged, columnsOf, ReadAs, placementBytes, written, left};
+use field::FieldRead;
+use field::Value;
+use field::Wrote;
+use net::Entry;
+use net::Judged;
+use net::Refusal;
+
+// What the reader answers: how many entries it filled in, or why none.
+pub enum PlacementRead {
+    Read(usize),
+    Refused(Refusal),
+}
+
+// What the writer answers: the bytes written, or why none.
+pub type PlacementWrote = field::Wrote;
+
+fn tag_of(v: Value) -> u8
+    ensures { λ r. ⌜ r ≡ tagOf v ⌝ }
+{
+    match v {
+        Value::Limits(_) => 1,
+        Value::Branch { parent: _, wire: _ } => 2,
+        Value::Sink {
+            parent: _,
+            wire: _,
+            pin: _,
+            polarity: _,
+        } => 3,
+        Value::Count(_) => 17,
+        Value::Entry(_) => 18,
+        Value::End => 127,
+    }
+}
+
+// A field of this tag is due.
+fn judge_due(read: FieldRead, tag: u8) -> Judged
+    ensures { λ r. ⌜ r ≡ due tag read ⌝ }
+{
+    match read {
+        FieldRead::Got(f) => {
+            let at = f.at;
+            let v = f.value;
+            if tag_of(v) == tag {
+                return Judged::Sound;
+            }
+            Judged::Refused(Refusal::NotDue(at))
+        }
+        FieldRead::Cut { tag: t, place } => {
+            if t == tag {
+                return Judged::Refused(Refusal::FileEnds(place));
+            }
+            Judged::Refused(Refusal::NotDue(place))
+        }
+        FieldRead::Refused(r) => Judged::Refused(r),
+    }
+}
+
+fn count_in(read: FieldRead) -> u16
+    ensures { λ r. ⌜ r ≡ countIn read ⌝ }
+{
+    let FieldRead::Got(f) = read else {
+        return 0;
+    };
+    let v = f.value;
+    let Value::Count(n) = v else {
+        return 0;
+    };
+    n
+}
+
+fn entry_in(read: FieldRead) -> Entry
+    ensures { λ r. ⌜ r ≡ entryIn read ⌝ }
+{
+    let none = Entry { wire: 0, offset: 0 };
+    let FieldRead::Got(f) = read else {
+        return none;
+    };
+    let v = f.value;
+    let Value::Entry(e) = v else {
+        return none;
+    };
+    e
+}
+
+fn entry_in_range(e: Entry) -> bool
+    ensures { λ r. ⌜ r ≡ entryInRange e ⌝ }
+{
+    net::and(0 < e.wire, net::and(e.wire <= 1024, e.offset <= 10000000))
+}
+
+// The number of entries that the front of a file says.
+fn owed_in(s: &[u8]) -> usize
+    ensures { λ r. ⌜ r ≡ owed (now (s .entry)) ⌝ }
+{
+    count_in(field::read_field(s, 0)) as usize
+}
+
+// A refusal where a test fails, and the next judgement where there is none: the definitions' own `unless` and `thenJudge`.
+fn unless(ok: bool, r: Refusal) -> Judged
+    ensures { λ j. ⌜ j ≡ orRefused ok r ⌝ }
+{
+    if ok {
+        return Judged::Sound;
+    }
+    Judged::Refused(r)
+}
+
+fn then_judge(first: Judged, next: Judged) -> Judged
+    ensures { λ j. ⌜ j ≡ thenJudge first next ⌝ }
+{
+    if let Judged::Refused(_) = first {
+        return first;
+    }
+    next
+}
+
+fn judge_count(s: &[u8]) -> Judged
+    ensures { λ r. ⌜ r ≡ countJudged (now (s .entry)) ⌝ }
+{
+    let ranged = unless(owed_in(s) <= 4096, Refusal::OutOfRange(0));
+    then_judge(judge_due(field::read_field(s, 0), 17), ranged)
+}
+
+// Entry i of a file.
+fn judge_entry(s: &[u8], i: usize) -> Judged
+    requires { ⌜ i < 4096 ⌝ }
+    ensures { λ r. ⌜ r ≡ entryJudged (now (s .entry)) i ⌝ }
+{
+    let at = 5 + 9 * i;
+    let read = field::read_field(s, at);
+    let e = entry_in(read);
+    let ranged = unless(entry_in_range(e), Refusal::OutOfRange(at));
+    then_judge(judge_due(read, 18), ranged)
+}
+
+// The end, and no byte after it.
+fn judge_end(s: &[u8], at: usize) -> Judged
+    requires { ⌜ at ≤ 36869 ⌝ }
+    ensures { λ r. ⌜ r ≡ endJudged (now (s .entry)) at ⌝ }
+{
+    let next = at + 3;
+    let last = unless(s.len() <= next, Refusal::BytesAfterEnd(next));
+    then_judge(judge_due(field::read_field(s, at), 127), last)
+}
+
+// The n entries and the end.
+fn judge_body(s: &[u8], n: usize) -> Judged
+    requires { ⌜ n ≤ 4096 ⌝ }
+    ensures { λ r. ⌜ r ≡ bodyJudged (now (s .entry)) n ⌝ }
+{
+    let mut i: usize = 0;
+    while i < n {
+        let here = judge_entry(s, i);
+        if let Judged::Refused(_) = here {
+            return here;
+        }
+        i += 1;
+    }
+    judge_end(s, 5 + 9 * n)
+}
+
+fn judge_file(s: &[u8]) -> Judged
+    ensures { λ r. ⌜ r ≡ fileJudged (now (s .entry)) ⌝ }
+{
+    let front = judge_count(s);
+    if let Judged::Refused(_) = front {
+        return front;
+    }
+    judge_body(s, owed_in(s))
+}
+
+// Fills the columns with the first n entries of a file.
+fn fill(s: &[u8], n: usize, wires: &mut [u16], offsets: &mut [u32])
+    requires { ⌜ (n ≤ 4096) × (n ≤ length (now wires)) × (n ≤ length (now offsets)) ⌝ }
+    ensures { λ _. ⌜ (now (wires .exit) ≡ sets (now (wires .entry)) 0 (map wire (listed (entryAt (now (s .entry))) n 0))) × (now (offsets .exit) ≡ sets (now (offsets .entry)) 0 (map offset (listed (entryAt (now (s .entry))) n 0))) ⌝ }
+{
+    let mut i: usize = 0;
+    while i < n {
+        let e = entry_in(field::read_field(s, 5 + 9 * i));
+        wires[i] = e.wire;
+        offsets[i] = e.offset;
+        i += 1;
+    }
+}
+
+// Reads a placement file into the columns. The whole file is judged before anything is written.
+pub fn read_placement(s: &[u8], wires: &mut [u16], offsets: &mut [u32]) -> PlacementRead
+    ensures { λ r. ⌜ ReadAs (placementOf (now (s .entry))) (now (wires .entry)) (now (offsets .entry)) (now (wires .exit)) (now (offsets .exit)) r ⌝ }
+{
+    let judged = judge_file(s);
+    if let Judged::Refused(r) = judged {
+        return PlacementRead::Refused(r);
+    }
+    let n = owed_in(s);
+    if wires.len() < n {
+        return PlacementRead::Refused(Refusal::NoRoom(n as u64));
+    }
+    if offsets.len() < n {
+        return PlacementRead::Refused(Refusal::NoRoom(n as u64));
+    }
+    fill(s, n, wires, offsets);
+    PlacementRead::Read(n)
+}
+
+fn column_entry(wires: &[u16], offsets: &[u32], i: usize) -> Entry
+    requires { ⌜ (i < length (now wires)) × (i < length (now offsets)) ⌝ }
+    ensures { λ r. ⌜ r ≡ columnEntry (now (wires .entry)) (now (offsets .entry)) i ⌝ }
+{
+    Entry {
+        wire: wires[i],
+        offset: offsets[i],
+    }
+}
+
+// 3 at the first entry out of its range.
+fn judge_ranges(wires: &[u16], offsets: &[u32]) -> Judged
+    requires { ⌜ length (now offsets) ≡ length (now wires) ⌝ }
+    ensures { λ r. ⌜ r ≡ rangesJudged (now (wires .entry)) (now (offsets .entry)) ⌝ }
+{
+    let n = wires.len();
+    let mut i: usize = 0;
+    while i < n {
+        let e = column_entry(wires, offsets, i);
+        let here = unless(entry_in_range(e), Refusal::OutOfRange(i));
+        if let Judged::Refused(_) = here {
+            return here;
+        }
+        i += 1;
+    }
+    Judged::Sound
+}
+
+fn judge_columns(wires: &[u16], offsets: &[u32]) -> Judged
+    ensures { λ r. ⌜ r ≡ columnsJudged (now (wires .entry)) (now (offsets .entry)) ⌝ }
+{
+    let n = wires.len();
+    if !net::and(offsets.len() == n, n <= 4096) {
+        return Judged::Refused(Refusal::WrongColumns);
+    }
+    judge_ranges(wires, offsets)
+}
+
+// Writes a field where the last one ended, and answers where it ends itself.
+fn put(out: &mut [u8], at: usize, v: Value) -> usize
+    requires { ⌜ at + length (bytesOf v) ≤ length (now out) ⌝ }
+    ensures { λ r. ⌜ (r ≡ at + length (bytesOf v)) × (now (out .exit) ≡ sets (now (out .entry)) at (bytesOf v)) ⌝ }
+{
+    field::write_field(&mut out[at..], v);
+    at + field::size(v)
+}
+
+// Writes the count, the entries and the end.
+fn write_fields(wires: &[u16], offsets: &[u32], out: &mut [u8])
+    requires { ⌜ (length (now offsets) ≡ length (now wires)) × (length (now wires) ≤ 4096) × (8 + 9 * length (now wires) ≤ length (now out)) ⌝ }
+    ensures { λ _. ⌜ now (out .exit) ≡ sets (now (out .entry)) 0 (placementBytes (entries (now (wires .entry)) (now (offsets .entry)))) ⌝ }
+{
+    let n = wires.len();
+    let mut at = put(out, 0, Value::Count(n as u16));
+    let mut i: usize = 0;
+    while i < n {
+        let e = column_entry(wires, offsets, i);
+        at = put(out, at, Value::Entry(e));
+        i += 1;
+    }
+    put(out, at, Value::End);
+}
+
+// Writes the file of a placement. The columns are judged, and the room, before anything is written.
+pub fn write_placement(wires: &[u16], offsets: &[u32], out: &mut [u8]) -> PlacementWrote
+    ensures { λ r. ⌜ (r ≡ written (columnsOf (now (wires .entry)) (now (offsets .entry))) (now (out .entry))) × (now (out .exit) ≡ left (columnsOf (now (wires .entry)) (now (offsets .entry))) (now (out .entry))) ⌝ }
+{
+    let judged = judge_columns(wires, offsets);
+    if let Judged::Refused(r) = judged {
+        return Wrote::Refused(r);
+    }
+    let size = 8 + 9 * wires.len();
+    if out.len() < size {
+        return Wrote::Refused(Refusal::NoRoom(size as u64));
+    }
+    write_fields(wires, offsets, out);
+    Wrote::Bytes(size)
+}
