@@ -5,7 +5,7 @@ use native.Mathlib.Omega.{arith}
 use native.Mathlib.Numerals.{add-one}
 use mathlib.Core.Path.{_≡_, refl, sym, ap, _∙_}
 use mathlib.Core.List.{List, [], _∷_}
-use lib.ListN.{length, set, length-set}
+use lib.ListN.{length, length-set}
 use types.Run.{OneOf}
 use denote.Enum.Declared.{tagOf}
 use Rattle.net.specs.declared.Node.{Node}

@@ -1,15 +1,15 @@
 -- The judge of a file: its loop has come to node i at the place `at`. What is left of the fields decides the answer; the two arrays hold
 -- the kinds of the nodes before i and the children that each node has among them.
-use Prim.Native.Nat.{ℕ, zero, suc, _+_, _-_, _<_, _≤_}
+use Prim.Native.Nat.{ℕ, suc, _+_, _-_, _<_, _≤_}
 use native.Mathlib.Omega.{arith}
 use native.Mathlib.Decide.{ℕ-discrete, decLt}
 use native.Mathlib.Numerals.{add-one}
-use mathlib.Core.Path.{_≡_, refl, sym, ap, subst, _∙_}
-use mathlib.Core.Bool.{Bool, true, false}
-use mathlib.Core.List.{List, [], _∷_}
+use mathlib.Core.Path.{_≡_, refl, sym, ap, _∙_}
+use mathlib.Core.Bool.{true}
+use mathlib.Core.List.{List, _∷_}
 use lib.ListN.{length, getD, set, drop, replicate, length-set, length-replicate}
 use lib.Seq.{getD-set-same, getD-set-other}
-use lib.Dec.{ltb, leb, eqb}
+use lib.Dec.{leb}
 use borrow.Author.Tests.{le-ltb}
 use Rattle.net.specs.declared.Limits.{Limits}
 use Rattle.net.specs.declared.Node.{Node}
@@ -17,8 +17,7 @@ use Rattle.net.specs.declared.Refusal.{Refusal}
 use Rattle.net.specs.declared.Refusal.the-variants.{OutOfRange, WrongParent, BytesAfterEnd}
 use Rattle.net.specs.declared.Judged.{Judged}
 use Rattle.net.specs.declared.Judged.the-variants.{Sound, Refused as Unsound}
-use Rattle.net.specs.Figures.{mostNodes, mostPlaces, mostChildren}
-use Rattle.net.specs.Choose.{both}
+use Rattle.net.specs.Figures.{mostNodes, mostPlaces}
 use Rattle.net.specs.Net.{Net, places, parent, kind, node}
 use Rattle.net.specs.Judge.{unless, thenJudge, nodeInRange, parentFits, admitted, nodeJudged, hasChild, children, childedBy, childed}
 use Rattle.net.specs.Counted.{Tallied}
@@ -28,9 +27,8 @@ use Rattle.net.proofs.SoundSays.{Fits, parent-fits}
 use Rattle.net.proofs.Judging.{tallied-start, tallied-after}
 use Rattle.net_file.specs.declared.Taken.{Taken}
 use Rattle.net_file.specs.declared.Taken.the-variants.{Node as OneNode, End as Last, Refused as Neither}
-use Rattle.net_file.specs.declared.NetRead.{NetRead}
 use Rattle.net_file.specs.declared.NetRead.the-variants.{Read, Refused as NotRead}
-use Rattle.net_file.specs.NetFile.{takenAt, Fields, follow, fieldsFrom, nodesOf, source, fieldsJudged, netWith, fieldsOf, netFrom, told}
+use Rattle.net_file.specs.NetFile.{takenAt, follow, fieldsFrom, nodesOf, source, fieldsJudged, netWith, fieldsOf, netFrom, told}
 use Rattle.net_file.proofs.Nodes.{node-is, places-are, Heads, heads, none-left}
 
 -- ---- one node
@@ -43,10 +41,6 @@ admitted-fits l d i k c place e =
 
 pub admitted-anywhere : (l : Limits) (d : Node) (i k c place place′ : ℕ) → admitted l d i k c place ≡ Sound → admitted l d i k c place′ ≡ Sound
 admitted-anywhere l d i k c place place′ e = let (r, f) = admitted-fits l d i k c place e in rw (r, f)
-
-both-false : (b : Bool) → both b false ≡ false
-both-false true = refl
-both-false false = refl
 
 admitted-as : (l : Limits) (d : Node) (i k k′ c place : ℕ) → (d .parent < i → k ≡ k′) → admitted l d i k c place ≡ admitted l d i k′ c place
 admitted-as l d i k k′ c place h = elim (decLt (d .parent) i) [

@@ -5,3 +5,7 @@ pub mod Filling
 pub mod Reading
 pub mod Writing
 pub mod Written
+pub mod ReadWrite
+pub mod WriteRead
+pub mod Determined
+pub mod Example

@@ -1,13 +1,13 @@
 -- Nodes in a list and in columns: node i of the columns is element i of the list, and what is left of the list from i on begins with it.
-use Prim.Native.Nat.{ℕ, zero, suc, _+_, _-_, _<_, _≤_}
+use Prim.Native.Nat.{ℕ, suc, _-_, _<_, _≤_}
 use native.Mathlib.Omega.{arith}
-use mathlib.Core.Path.{_≡_, refl, sym, ap, _∙_}
-use mathlib.Core.List.{List, [], _∷_, map}
+use mathlib.Core.Path.{_≡_, sym, ap, _∙_}
+use mathlib.Core.List.{List, [], _∷_}
 use lib.ListN.{length, getD, drop, length-drop, length-map, List·getD-map}
 use lib.Seq.{drop-cons}
 use Rattle.net.specs.declared.Limits.{Limits}
 use Rattle.net.specs.declared.Node.{Node}
-use Rattle.net.specs.Net.{Net, net, places, node}
+use Rattle.net.specs.Net.{places, node}
 use Rattle.net_file.specs.NetFile.{columnsOf, source}
 
 pub node-is : (l : Limits) (ds : List Node) (i : ℕ) → node (columnsOf l ds) i ≡ getD ds i source

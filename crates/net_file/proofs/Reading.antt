@@ -2,9 +2,8 @@
 use Prim.Native.Nat.{ℕ, zero, suc, _-_, _<_, _≤_}
 use native.Mathlib.Omega.{arith}
 use mathlib.Core.Path.{_≡_, refl, sym, ap, _∙_}
-use mathlib.Core.List.{List, [], _∷_}
+use mathlib.Core.List.{List, _∷_}
 use lib.ListN.{length}
-use lib.Dec.{ltb}
 use borrow.Author.Tests.{lt-ltb, le-ltb}
 use Rattle.net.specs.declared.Limits.{Limits}
 use Rattle.net.specs.declared.Node.{Node}
@@ -21,7 +20,7 @@ use Rattle.net_file.specs.declared.Taken.{Taken}
 use Rattle.net_file.specs.declared.Taken.the-variants.{Node as OneNode, End as Last, Refused as Neither}
 use Rattle.net_file.specs.declared.NetRead.{NetRead}
 use Rattle.net_file.specs.declared.NetRead.the-variants.{Read, Refused as NotRead}
-use Rattle.net_file.specs.NetFile.{frontOf, takenAt, Fields, follow, fieldsFrom, nodesOf, columnsOf, source, fieldsJudged, Outcome, read, refused, whenSound, netWith, fieldsOf, netFrom, fromFront, netOf, room, laidOver, told, answered, filled, ReadNet}
+use Rattle.net_file.specs.NetFile.{frontOf, takenAt, follow, fieldsFrom, nodesOf, columnsOf, source, fieldsJudged, Outcome, read, refused, whenSound, netWith, fieldsOf, netFrom, fromFront, netOf, room, laidOver, told, answered, filled, ReadNet}
 use Rattle.net_file.proofs.Nodes.{places-are}
 
 -- ---- what a file that was read says

@@ -1,9 +1,9 @@
 -- Document 01, "Files": "A net file is one 01, then 02 and 03 fields in node order, then 7F". What a file says, and the bytes of a net.
 use Prim.Native.Nat.{ℕ, zero, suc, _+_, _-_, min}
 use mathlib.Core.Path.{_≡_}
-use mathlib.Core.Bool.{Bool, true, false}
+use mathlib.Core.Bool.{Bool, true}
 use mathlib.Core.List.{List, [], _∷_, _++_, map}
-use lib.ListN.{length}
+use lib.ListN.{length, take}
 use lib.Seq.{sets}
 use lib.Dec.{eqb, ltb, leb}
 use Rattle.net.specs.declared.Limits.{Limits}
@@ -161,6 +161,10 @@ filled lent (refused r) = lent
 pub record ReadNet (s : List ℕ) (lent left : Net) (r : NetRead) : Type 0 where
   pub answer : r ≡ answered (room lent) (netOf s)
   pub columns : left ≡ filled lent (netOf s)
+
+-- the first m places of some columns, with limits: the net that a caller holds who lent longer ones
+abbrev pub firstPlaces : ℕ → Limits → Net → Net
+firstPlaces m l n = net l (take m (n .parents)) (take m (n .wires)) (take m (n .kinds)) (take m (n .pins)) (take m (n .polarities))
 
 -- ---- the bytes of a net
 

@@ -5,7 +5,7 @@ ghost use Prim.Native.Nat.{_+_, _-_, _<_, _≤_, _^_, min};
 ghost use lib.ListN.{length, getD};
 ghost use lib.Dec.{leb};
 ghost use lib.Seq.{sets};
-ghost use Rattle.net.specs.Net.{netAt, places};
+ghost use Rattle.net.specs.Net.{netAt};
 ghost use Rattle.net.specs.Judge.{unless, thenJudge, childedBy};
 ghost use Rattle.net.specs.Counted.{unlimited, Within, Level};
 ghost use Rattle.field.specs.Format.{fieldAt, bytesOf};

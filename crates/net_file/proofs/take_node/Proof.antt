@@ -4,7 +4,6 @@ use mathlib.Core.Path.{sym, ap, _∙_}
 use native.Mathlib.Omega.{arith}
 use borrow.Author.Needs.{needs}
 use Rattle.field.proofs.RoundTrip.{Stands, written-read}
-use Rattle.net_file.specs.declared.Taken.the-variants.{Refused}
 use Rattle.net_file.specs.NetFile.{takenOf, takenAt}
 use Rattle.net_file.proofs.take_node.Statement.{statement}
 use Rattle.net_file.proofs.take_node.Tie as tie

@@ -1,0 +1,17 @@
+-- `read_some` is safe: the part that it lends lies in the slice.
+use mathlib.Core.Path.{sym}
+use lib.Seq.{length-take-le}
+use borrow.Author.Needs.{needs}
+use Rattle.net_file_runs.proofs.read_some.Statement.{statement}
+use Rattle.net_file_runs.proofs.read_some.Tie as tie
+
+pub read-some-spec : {M : Type 1} → statement M
+read-some-spec =
+    tie.close
+    (tie.spec
+    (λ c. search needs)
+    (λ c. search needs)
+    (λ c. sym (length-take-le _ _ (c .before .if1 .left)))
+    (λ c κs. search needs)
+    (λ c. search needs)
+    (λ c. search needs))
