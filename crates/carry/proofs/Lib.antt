@@ -5,3 +5,4 @@ pub mod Walk
 pub mod Carrying
 pub mod CarriedIsLegal
 pub mod Determined
+pub mod Examples
