@@ -7,3 +7,4 @@ pub mod Senses
 pub mod Weighing
 pub mod Stored
 pub mod Determined
+pub mod VerdictSays

@@ -1,0 +1,32 @@
+-- Document 01's row: the carry of offsets 6 and 14 from wire 15, pin 4 to wire 10 gives 6 and 10. And what each refusal names.
+use Prim.Native.Nat.{ℕ}
+use mathlib.Core.Path.{_≡_, refl}
+use mathlib.Core.List.{List, [], _∷_}
+use Rattle.net.specs.declared.Refusal.the-variants.{OutOfRange, NotEased, Overloaded}
+use Rattle.net.specs.Net.{Net, net}
+use Rattle.net.specs.Tree.{hanging}
+use Rattle.net.specs.Load.{entries, offsetsOn, drives, handsUp, handedBy, loadBelow, drivenOn, joined, driven}
+use Rattle.net.specs.Legal.{onTheWay, inverters}
+use Rattle.net.specs.Judge.{children, judgeEach, judged}
+use Rattle.net.specs.Checked.{placedFrom, withinLimit, firstSink, placementJudged, checked}
+use Rattle.net.specs.Ease.{easeJudged}
+use Rattle.carry.specs.declared.Outcome.{Outcome}
+use Rattle.carry.specs.declared.Outcome.the-variants.{Carried, FirstNet, SecondNet, Refused}
+use Rattle.carry.specs.Carry.{outcome, columnAfter}
+
+-- one sink at the end of one wire, C_U 10, C_b 2
+abbrev alone : ℕ → ℕ → Net
+alone wire pin = net (record { limit = 10; pin = 2; repeater = 0 }) (0 ∷ 0 ∷ []) (0 ∷ wire ∷ []) (0 ∷ 1 ∷ []) (0 ∷ pin ∷ []) (0 ∷ 0 ∷ [])
+
+abbrev from : Net → Net → List ℕ → Outcome
+from n m os = outcome n m (1 ∷ 1 ∷ []) os
+
+pub carried-so : (from (alone 15 4) (alone 10 4) (6 ∷ 14 ∷ []) ∷ from (alone 15 4) (alone 16 4) (6 ∷ 14 ∷ []) ∷ from (alone 15 4) (alone 10 5) (6 ∷ 14 ∷ [])
+    ∷ from (alone 15 4) (alone 10 4) (7 ∷ 14 ∷ []) ∷ from (alone 10000001 4) (alone 10 4) (6 ∷ 14 ∷ []) ∷ from (alone 15 4) (alone 10 1000001) (6 ∷ 14 ∷ []) ∷ [])
+    ≡ (Carried 2 ∷ Refused (NotEased 1) ∷ Refused (NotEased 1) ∷ Refused (Overloaded 0) ∷ FirstNet (OutOfRange 1) ∷ SecondNet (OutOfRange 1) ∷ [])
+unfolding children judgeEach judged easeJudged checked placementJudged placedFrom withinLimit firstSink hanging entries offsetsOn drives handsUp handedBy loadBelow drivenOn joined driven onTheWay inverters
+carried-so = refl
+
+pub cut-so : columnAfter (from (alone 15 4) (alone 10 4) (6 ∷ 14 ∷ [])) (alone 10 4) (1 ∷ 1 ∷ []) (6 ∷ 14 ∷ []) ≡ 6 ∷ 10 ∷ []
+unfolding children judgeEach judged easeJudged checked placementJudged placedFrom withinLimit firstSink hanging entries offsetsOn drives handsUp handedBy loadBelow drivenOn joined driven onTheWay inverters
+cut-so = refl

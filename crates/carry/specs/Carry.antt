@@ -1,0 +1,54 @@
+-- Document 01, the carry: "first net, second net (a refusal of a net names which of the two, all other refusals name neither), 13, then the placement on the first net as the checker does."
+use Prim.Native.Nat.{ℕ, _<_}
+use mathlib.Core.Path.{_≡_}
+use mathlib.Core.List.{List, map}
+use lib.ListN.{length, getD}
+use Rattle.net.specs.declared.Entry.{Entry}
+use Rattle.net.specs.declared.Judged.{Judged}
+use Rattle.net.specs.declared.Judged.the-variants as judgements
+use Rattle.net.specs.Net.{Net}
+use Rattle.net.specs.Load.{entries}
+use Rattle.net.specs.Judge.{thenJudge, judged}
+use Rattle.net.specs.Checked.{checked}
+use Rattle.net.specs.Ease.{carried, easeJudged}
+use Rattle.carry.specs.declared.Outcome.{Outcome}
+use Rattle.carry.specs.declared.Outcome.the-variants.{Carried, FirstNet, SecondNet, Refused}
+
+-- which of the two nets a refusal is of
+abbrev pub firstNet : Judged → Outcome → Outcome
+firstNet judgements.Sound next = next
+firstNet (judgements.Refused r) next = FirstNet r
+
+abbrev pub secondNet : Judged → Outcome → Outcome
+secondNet judgements.Sound next = next
+secondNet (judgements.Refused r) next = SecondNet r
+
+-- "the answer is the number of entries"
+abbrev pub placementOf : Judged → ℕ → Outcome
+placementOf judgements.Sound count = Carried count
+placementOf (judgements.Refused r) count = Refused r
+
+-- from net n to net m
+abbrev pub outcome : Net → Net → List ℕ → List ℕ → Outcome
+outcome n m vs os = firstNet (judged n) (secondNet (judged m) (placementOf (thenJudge (easeJudged n m) (checked n vs os)) (length vs)))
+
+-- the column of offsets of a list of entries
+abbrev pub offsetsOf : List Entry → List ℕ
+offsetsOf p = map (λ (e : Entry). e .offset) p
+
+-- "Then every offset in the lent column becomes the smaller of itself and the new wire": a refusal leaves the column as it came
+abbrev pub columnAfter : Outcome → Net → List ℕ → List ℕ → List ℕ
+columnAfter (Carried count) m vs os = offsetsOf (carried m (entries vs os))
+columnAfter (FirstNet r) m vs os = os
+columnAfter (SecondNet r) m vs os = os
+columnAfter (Refused r) m vs os = os
+
+-- the answer r and the offsets after, by the offsets before
+pub record CarriedIs (n m : Net) (vs before : List ℕ) (r : Outcome) (after : List ℕ) : Type 0 where
+  pub answer : r ≡ outcome n m vs before
+  pub column : after ≡ columnAfter (outcome n m vs before) m vs before
+
+-- what the cut asks: each entry is on a wire of the column
+pub record OnWires (ws vs os : List ℕ) : Type 0 where
+  pub even : length os ≡ length vs
+  pub on : (k : ℕ) → k < length vs → getD vs k 0 < length ws
