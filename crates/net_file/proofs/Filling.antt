@@ -6,7 +6,7 @@ use native.Mathlib.Numerals.{add-one}
 use mathlib.Core.Path.{_≡_, refl, sym, ap, _∙_}
 use mathlib.Core.List.{List, [], _∷_}
 use lib.ListN.{length, length-set}
-use types.Run.{OneOf}
+use types.Run.{OneOf, miss}
 use denote.Enum.Declared.{tagOf}
 use Rattle.net.specs.declared.Node.{Node}
 use Rattle.net.specs.Net.{Net}
@@ -15,7 +15,6 @@ use Rattle.net_file.specs.declared.Taken.{Taken}
 use Rattle.net_file.specs.declared.Taken.the-variants.{Node as OneNode, End as Last, Refused as Neither}
 use Rattle.net_file.specs.NetFile.{takenAt, Fields, follow, fieldsFrom, nodesOf, columnsOf, source, laidOver}
 use Rattle.net_file.proofs.Taken.{the-type}
-use Rattle.net_file.proofs.Variants.{no-key}
 
 -- five columns as long as five others
 pub record AsLong (a b : Net) : Type 0 where
@@ -67,7 +66,7 @@ module _ (s : List ℕ) (places : ℕ) (lent : Net) where
 
     none : (t : Taken) → OneOf (1 ∷ 2 ∷ []) (tagOf the-type t) → (more : ℕ → Fields) → nodesOf (follow at t more) ≡ []
     unfolding nodesOf
-    none (OneNode d next) k more = no-key (1 ∷ 2 ∷ []) 0 refl k
+    none (OneNode d next) k more = absurd (miss (1 ∷ 2 ∷ []) 0 tt k)
     none (Last next) k more = refl
     none (Neither r) k more = refl
 

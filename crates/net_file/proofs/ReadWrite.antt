@@ -18,7 +18,7 @@ use Rattle.net.specs.Figures.{mostNodes, mostPlaces}
 use Rattle.net.specs.Choose.{pick}
 use Rattle.net.specs.Net.{Net, places, parent, kind, node}
 use Rattle.net.specs.Judge.{unless, judgeEach, limitsInRange, columnsFit, sourceClear, children, nodeJudged, nodesJudged, childed, judged}
-use Rattle.net.proofs.Tests.{unless-met, then-met}
+use Rattle.net.proofs.Tests.{never, unless-met, then-met}
 use Rattle.net.proofs.Each.{each-met}
 use Rattle.net.proofs.SoundSays.{NodeSound, node-sound}
 use Rattle.field.specs.declared.Value.{Value}
@@ -47,45 +47,45 @@ front-value at l (LimitsField l′) e = by (limitsInRange l′) refl e
   where
     by : (b : Bool) → limitsInRange l′ ≡ b → pick b (Found l′) (NotFound (OutOfRange at)) ≡ Found l → (LimitsField l′ ≡ LimitsField l) × (limitsInRange l ≡ true)
     by true q h = let same : l′ ≡ l = cc in (ap LimitsField same, rw same at q)
-    by false q h = absurd (let z : _≡_ {A = ℕ} 0 1 = cc in omega arith)
-front-value at l (Branch p w) e = absurd (let z : _≡_ {A = ℕ} 0 1 = cc in omega arith)
-front-value at l (Sink p w c q) e = absurd (let z : _≡_ {A = ℕ} 0 1 = cc in omega arith)
-front-value at l (Count n) e = absurd (let z : _≡_ {A = ℕ} 0 1 = cc in omega arith)
-front-value at l (Entry x) e = absurd (let z : _≡_ {A = ℕ} 0 1 = cc in omega arith)
-front-value at l End e = absurd (let z : _≡_ {A = ℕ} 0 1 = cc in omega arith)
+    by false q h = never (cc)
+front-value at l (Branch p w) e = never (cc)
+front-value at l (Sink p w c q) e = never (cc)
+front-value at l (Count n) e = never (cc)
+front-value at l (Entry x) e = never (cc)
+front-value at l End e = never (cc)
 
 node-value : (at : ℕ) (d : Node) (next : ℕ) (v : Value) → takenValue at v ≡ OneNode d next → (v ≡ fieldOf d) × (next ≡ at + length (bytesOf v))
 node-value at d next (Branch p w) e =
     let same : _≡_ {A = Node} (record { parent = p; wire = w; kind = 0; pin = 0; polarity = 0 }) d = cc in (ap fieldOf same, cc)
 node-value at d next (Sink p w c q) e =
     let same : _≡_ {A = Node} (record { parent = p; wire = w; kind = 1; pin = c; polarity = q }) d = cc in (ap fieldOf same, cc)
-node-value at d next (LimitsField l) e = absurd (let z : _≡_ {A = ℕ} 0 1 = cc in omega arith)
-node-value at d next (Count n) e = absurd (let z : _≡_ {A = ℕ} 0 1 = cc in omega arith)
-node-value at d next (Entry x) e = absurd (let z : _≡_ {A = ℕ} 0 1 = cc in omega arith)
-node-value at d next End e = absurd (let z : _≡_ {A = ℕ} 0 1 = cc in omega arith)
+node-value at d next (LimitsField l) e = never (cc)
+node-value at d next (Count n) e = never (cc)
+node-value at d next (Entry x) e = never (cc)
+node-value at d next End e = never (cc)
 
 end-value : (at next : ℕ) (v : Value) → takenValue at v ≡ Last next → (v ≡ End) × (next ≡ at + length (bytesOf v))
 end-value at next End e = (refl, cc)
-end-value at next (LimitsField l) e = absurd (let z : _≡_ {A = ℕ} 0 1 = cc in omega arith)
-end-value at next (Branch p w) e = absurd (let z : _≡_ {A = ℕ} 0 1 = cc in omega arith)
-end-value at next (Sink p w c q) e = absurd (let z : _≡_ {A = ℕ} 0 1 = cc in omega arith)
-end-value at next (Count n) e = absurd (let z : _≡_ {A = ℕ} 0 1 = cc in omega arith)
-end-value at next (Entry x) e = absurd (let z : _≡_ {A = ℕ} 0 1 = cc in omega arith)
+end-value at next (LimitsField l) e = never (cc)
+end-value at next (Branch p w) e = never (cc)
+end-value at next (Sink p w c q) e = never (cc)
+end-value at next (Count n) e = never (cc)
+end-value at next (Entry x) e = never (cc)
 
 front-field : (l : Limits) (g : FieldRead) → frontOf g ≡ Found l → (f : Field) × (g ≡ Got f) × (f .value ≡ LimitsField l) × (limitsInRange l ≡ true)
 front-field l (Got f) e = let (v, r) = front-value (f .at) l (f .value) e in (f, refl, v, r)
-front-field l (Cut t place) e = absurd (let z : _≡_ {A = ℕ} 0 1 = cc in omega arith)
-front-field l (NoField r) e = absurd (let z : _≡_ {A = ℕ} 0 1 = cc in omega arith)
+front-field l (Cut t place) e = never (cc)
+front-field l (NoField r) e = never (cc)
 
 node-field : (d : Node) (next : ℕ) (g : FieldRead) → takenOf g ≡ OneNode d next → (f : Field) × (g ≡ Got f) × (f .value ≡ fieldOf d) × (next ≡ f .at + length (bytesOf (f .value)))
 node-field d next (Got f) e = let (v, n) = node-value (f .at) d next (f .value) e in (f, refl, v, n)
-node-field d next (Cut t place) e = absurd (let z : _≡_ {A = ℕ} 0 1 = cc in omega arith)
-node-field d next (NoField r) e = absurd (let z : _≡_ {A = ℕ} 0 1 = cc in omega arith)
+node-field d next (Cut t place) e = never (cc)
+node-field d next (NoField r) e = never (cc)
 
 end-field : (next : ℕ) (g : FieldRead) → takenOf g ≡ Last next → (f : Field) × (g ≡ Got f) × (f .value ≡ End) × (next ≡ f .at + length (bytesOf (f .value)))
 end-field next (Got f) e = let (v, n) = end-value (f .at) next (f .value) e in (f, refl, v, n)
-end-field next (Cut t place) e = absurd (let z : _≡_ {A = ℕ} 0 1 = cc in omega arith)
-end-field next (NoField r) e = absurd (let z : _≡_ {A = ℕ} 0 1 = cc in omega arith)
+end-field next (Cut t place) e = never (cc)
+end-field next (NoField r) e = never (cc)
 
 -- ---- a file's bytes
 module _ (s : List ℕ) (by : AreBytes s) where
@@ -121,7 +121,7 @@ module _ (s : List ℕ) (by : AreBytes s) where
 
     bytes-back : (k at i : ℕ) → fieldsJudged N (length s) i (fieldsFrom k s at) ≡ Sound → drop i ds ≡ nodesOf (fieldsFrom k s at) → bytesFrom (node N) (length (nodesOf (fieldsFrom k s at))) i ≡ drop at s
     unfolding fieldsFrom fieldsJudged nodesOf bytesFrom
-    bytes-back zero at i e h = absurd (let z : _≡_ {A = ℕ} 0 1 = cc in omega arith)
+    bytes-back zero at i e h = never (cc)
     bytes-back (suc k) at i e h = on (takenAt s at) refl e h (λ next. bytes-back k next (suc i))
       where
         on : (t : Taken) → takenAt s at ≡ t → fieldsJudged N (length s) i (follow at t (fieldsFrom k s)) ≡ Sound → drop i ds ≡ nodesOf (follow at t (fieldsFrom k s))
@@ -132,7 +132,7 @@ module _ (s : List ℕ) (by : AreBytes s) where
             node-bytes at i d next (length (nodesOf (fieldsFrom k s next))) q (head .first) (later next (then-met (nodeJudged N i at) _ j .1) (head .others))
         on (Last next) q j left later =
             end-bytes at next q (leb-true (length s) next (unless-met _ (BytesAfterEnd next) (then-met (unless (leb (length s) next) (BytesAfterEnd next)) _ j .0)))
-        on (Neither r) q j left later = absurd (let z : _≡_ {A = ℕ} 0 1 = cc in omega arith)
+        on (Neither r) q j left later = never (cc)
 
 -- ---- judged field by field, and as columns
 
@@ -144,7 +144,7 @@ columns-judged n size i (nodeAt at d more) e =
     let ok : nodeJudged n i i ≡ Sound = admitted-anywhere (n .limits) (node n i) i (kind n (parent n i)) (children n (i - 1) (parent n i)) at i here in
     (rw ok nodes, c)
 columns-judged n size i (endAt next) e = (refl, then-met (unless (leb size next) (BytesAfterEnd next)) (childed n) e .1)
-columns-judged n size i (wrong r) e = absurd (let z : _≡_ {A = ℕ} 0 1 = cc in omega arith)
+columns-judged n size i (wrong r) e = never (cc)
 
 few-nodes : (n : Net) (m : ℕ) → judgeEach (λ j. nodeJudged n j j) m 1 ≡ Sound → m ≤ mostNodes
 few-nodes n zero e = omega arith
@@ -191,12 +191,12 @@ same-bytes s n by e =
 -- ---- "A net file read and written again gives the same bytes"
 
 answered-read : (lent : Net) (o : Outcome) (l : Limits) (m : ℕ) → Read l m ≡ answered (room lent) o → (n : Net) × (o ≡ read n) × (m ≤ room lent) × (n .limits ≡ l) × (places n ≡ m) × (filled lent o ≡ laidOver lent 0 n)
-answered-read lent (refused r) l m e = absurd (let z : _≡_ {A = ℕ} 0 1 = cc in omega arith)
+answered-read lent (refused r) l m e = never (cc)
 answered-read lent (read n) l m e = by (ltb (room lent) (places n)) refl e
   where
     by : (b : Bool) → ltb (room lent) (places n) ≡ b → Read l m ≡ pick b (NotRead (NoRoom (places n))) (Read (n .limits) (places n))
         → (x : Net) × (_≡_ {A = Outcome} (read n) (read x)) × (m ≤ room lent) × (x .limits ≡ l) × (places x ≡ m) × (pick b lent (laidOver lent 0 n) ≡ laidOver lent 0 x)
-    by true q h = absurd (let z : _≡_ {A = ℕ} 0 1 = cc in omega arith)
+    by true q h = never (cc)
     by false q h = let k : places n ≡ m = cc in (n, refl, rw k at (ltb-false (room lent) (places n) q), cc, k, refl)
 
 pub front-is : (col vs : List ℕ) (m : ℕ) → length vs ≡ m → m ≤ length col → take m (sets col 0 vs) ≡ vs

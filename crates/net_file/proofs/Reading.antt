@@ -11,6 +11,7 @@ use Rattle.net.specs.declared.Refusal.{Refusal}
 use Rattle.net.specs.declared.Refusal.the-variants.{NoRoom}
 use Rattle.net.specs.declared.Judged.{Judged}
 use Rattle.net.specs.declared.Judged.the-variants.{Sound, Refused as Unsound}
+use Rattle.net.proofs.Tests.{never}
 use Rattle.net.specs.Net.{Net, places}
 use Rattle.net.specs.Counted.{unlimited}
 use Rattle.field.specs.Format.{fieldAt}
@@ -32,14 +33,14 @@ pub record WasRead (s : List ℕ) (n : Net) : Type 0 where
 
 was-sound : (j : Judged) (n m : Net) → whenSound j n ≡ read m → (j ≡ Sound) × (n ≡ m)
 was-sound Sound n m e = (refl, cc)
-was-sound (Unsound r) n m e = absurd (let z : _≡_ {A = ℕ} 0 1 = cc in omega arith)
+was-sound (Unsound r) n m e = never (cc)
 
 pub was-read : (s : List ℕ) (n : Net) → netOf s ≡ read n → WasRead s n
 unfolding netOf netFrom
 was-read s n e = by (frontOf (fieldAt s 0)) refl e
   where
     by : (f : Front) → frontOf (fieldAt s 0) ≡ f → fromFront s f ≡ read n → WasRead s n
-    by (NotFound r) q h = absurd (let z : _≡_ {A = ℕ} 0 1 = cc in omega arith)
+    by (NotFound r) q h = never (cc)
     by (Found l) q h =
         let (j, is) = was-sound (fieldsJudged (netWith l (fieldsOf s)) (length s) 1 (fieldsOf s)) (netWith l (fieldsOf s)) n h in
         let same : l ≡ n .limits = ap (λ (m : Net). m .limits) is in
@@ -62,12 +63,12 @@ same-nodes (suc k) s at = by (takenAt s at) refl (same-nodes k s)
 -- ---- the three ways out
 
 told-refused : (lent : Net) (o : Outcome) (x : Refusal) → told o ≡ NotRead x → (NotRead x ≡ answered (room lent) o) × (lent ≡ filled lent o)
-told-refused lent (read n) x e = absurd (let z : _≡_ {A = ℕ} 0 1 = cc in omega arith)
+told-refused lent (read n) x e = never (cc)
 told-refused lent (refused r) x e = (sym e, refl)
 
 told-read : (o : Outcome) (l : Limits) (m : ℕ) → told o ≡ Read l m → (n : Net) × (o ≡ read n) × (places n ≡ m) × (n .limits ≡ l)
 told-read (read n) l m e = (n, refl, cc, cc)
-told-read (refused r) l m e = absurd (let z : _≡_ {A = ℕ} 0 1 = cc in omega arith)
+told-read (refused r) l m e = never (cc)
 
 module _ (s : List ℕ) (lent : Net) {r : NetRead} (is : r ≡ told (netOf s)) where
   pub read-refused : (x : Refusal) → r ≡ NotRead x → ReadNet s lent lent r

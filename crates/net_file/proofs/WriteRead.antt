@@ -19,7 +19,7 @@ use Rattle.net.specs.Choose.{pick, both}
 use Rattle.net.specs.Net.{Net, places, parent, wire, kind, pin, polarity, node}
 use Rattle.net.specs.Judge.{unless, limitsInRange, columnsFit, sourceClear, endInRange, children, nodeJudged, nodesJudged, childed, judged}
 use Rattle.net.specs.Sound.{SoundNet}
-use Rattle.net.proofs.Tests.{both-met, unless-met, then-met}
+use Rattle.net.proofs.Tests.{never, both-met, unless-met, then-met}
 use Rattle.net.proofs.Each.{each-met}
 use Rattle.net.proofs.SoundSays.{sound-says}
 use Rattle.field.specs.declared.Value.{Value}
@@ -182,11 +182,11 @@ module _ (n : Net) (holds : judged n ≡ Sound) where
 -- ---- "a net written and read again gives the same net"
 
 was-written : (j : Judged) (bs out : List ℕ) (m : ℕ) → Written m ≡ written j bs out → (j ≡ Sound) × (m ≡ length bs) × (length bs ≤ length out) × (leftIn j bs out ≡ sets out 0 bs)
-was-written (Unsound r) bs out m e = absurd (let z : _≡_ {A = ℕ} 0 1 = cc in omega arith)
+was-written (Unsound r) bs out m e = never (cc)
 was-written Sound bs out m e = by (ltb (length out) (length bs)) refl e
   where
     by : (b : Bool) → ltb (length out) (length bs) ≡ b → Written m ≡ pick b (NotWritten (NoRoom (length bs))) (Written (length bs)) → (Sound ≡ Sound) × (m ≡ length bs) × (length bs ≤ length out) × (pick b out (sets out 0 bs) ≡ sets out 0 bs)
-    by true q h = absurd (let z : _≡_ {A = ℕ} 0 1 = cc in omega arith)
+    by true q h = never (cc)
     by false q h = (refl, cc, ltb-false (length out) (length bs) q, refl)
 
 module _ (n : Net) (out after : List ℕ) (m : ℕ) (wrote : WroteNet n out after (Written m)) where

@@ -12,6 +12,7 @@ use borrow.Author.Tests.{le-ltb}
 use Rattle.net.specs.declared.Refusal.{Refusal}
 use Rattle.net.specs.declared.Limits.{Limits}
 use Rattle.net.specs.declared.Node.{Node}
+use Rattle.net.proofs.Tests.{never}
 use Rattle.net.specs.Choose.{pick}
 use Rattle.field.specs.declared.Value.{Value}
 use Rattle.field.specs.declared.Value.the-variants.{Limits as LimitsField, Branch, Sink, End}
@@ -38,7 +39,7 @@ module _ (bs out : List ℕ) (h : length bs ≤ length out) {r : Wrote} {more : 
   put-count q = let x = wrote-is .0 in (cc, wrote-is .1)
 
   pub put-never : {A : Type 0} {x : Refusal} → r ≡ NotWritten x → A
-  put-never q = let x = wrote-is .0 in absurd (let z : _≡_ {A = ℕ} 0 1 = cc in omega arith)
+  put-never q = let x = wrote-is .0 in never (cc)
 
 -- the part of a buffer from a place on
 abbrev Part : List ℕ → ℕ → List ℕ
