@@ -1,21 +1,18 @@
 -- What the reader answers and leaves, on each of its ways out.
 use Prim.Native.Nat.{ℕ, _<_, _≤_, min}
 use native.Mathlib.Omega.{arith}
-use mathlib.Core.Path.{_≡_, refl, sym, ap, _∙_}
+use mathlib.Core.Path.{_≡_, refl}
 use mathlib.Core.List.{List, map}
-use mathlib.Core.Bool.{Bool, true, false}
+use mathlib.Core.Bool.{true, false}
 use lib.ListN.{length}
 use lib.Seq.{sets}
 use lib.Dec.{ltb}
 use borrow.Author.Tests.{lt-ltb, le-ltb}
-use Rattle.net.specs.Choose.{pick}
-use Rattle.net.specs.declared.Entry.{Entry}
 use Rattle.net.specs.declared.Refusal.{Refusal}
 use Rattle.net.specs.declared.Refusal.the-variants.{NoRoom}
-use Rattle.net.specs.declared.Judged.{Judged}
 use Rattle.net.specs.declared.Judged.the-variants.{Sound, Refused as Unsound}
 use Rattle.placement_file.specs.declared.PlacementRead.the-variants.{Read, Refused}
-use Rattle.placement_file.specs.File.{owed, entryAt, fileJudged, listed, Outcome, placement, refused, outcome, placementOf, wire, offset, ReadAs}
+use Rattle.placement_file.specs.File.{owed, entryAt, fileJudged, listed, placementOf, wire, offset, ReadAs}
 use Rattle.placement_file.proofs.Listing.{length-listed}
 
 module _ (s : List ℕ) {vs os : List ℕ} where

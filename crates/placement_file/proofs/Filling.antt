@@ -1,9 +1,9 @@
 -- A column filled entry by entry: what is still to be stored decides what it is to hold.
-use Prim.Native.Nat.{ℕ, suc, _+_, _-_, _<_, _≤_}
+use Prim.Native.Nat.{ℕ, _+_, _-_, _<_, _≤_}
 use native.Mathlib.Omega.{arith}
 use native.Mathlib.Numerals.{add-one}
 use mathlib.Core.Path.{_≡_, refl, sym, ap, _∙_}
-use mathlib.Core.List.{List, [], _∷_, map}
+use mathlib.Core.List.{List, map}
 use lib.ListN.{length, set, length-set}
 use lib.Seq.{sets}
 use Rattle.net.specs.declared.Entry.{Entry}

@@ -4,3 +4,7 @@ pub mod Listing
 pub mod Filling
 pub mod Answers
 pub mod Writing
+pub mod RoundTrip
+pub mod SamePlacement
+pub mod Determined
+pub mod Example

@@ -1,15 +1,11 @@
 -- The bytes of a placement, and how a buffer comes to hold them: each field laid where the last one ended.
-use Prim.Native.Nat.{ℕ, zero, suc, _+_, _-_, _*_, _<_, _≤_}
+use Prim.Native.Nat.{ℕ, _+_, _-_, _*_, _<_, _≤_}
 use native.Mathlib.Omega.{arith}
-use native.Mathlib.Numerals.{add-one}
 use mathlib.Core.Path.{_≡_, refl, sym, ap, _∙_}
 use mathlib.Core.List.{List, [], _∷_, _++_}
-use mathlib.Core.Bool.{Bool}
-use lib.ListN.{length, getD, take, drop, length-append, length-take, length-drop}
+use lib.ListN.{length, take, drop, length-append, length-take, length-drop}
 use lib.Seq.{sets, length-sets}
-use lib.Dec.{ltb}
 use borrow.Author.Tests.{le-ltb}
-use Rattle.net.specs.Choose.{pick}
 use Rattle.net.specs.Load.{entries}
 use Rattle.net.specs.declared.Entry.{Entry}
 use Rattle.net.specs.declared.Refusal.{Refusal}
@@ -17,13 +13,12 @@ use Rattle.net.specs.declared.Refusal.the-variants.{NoRoom}
 use Rattle.net.specs.declared.Judged.the-variants.{Sound, Refused as Unsound}
 use Rattle.net.specs.Figures.{mostEntries}
 use Rattle.field.specs.Format.{bytesOf, laid}
-use Rattle.field.specs.declared.Value.{Value}
 use Rattle.field.specs.declared.Value.the-variants.{Count, Entry as AnEntry, End}
 use Rattle.field.proofs.Numbers.{sets-append}
 use Rattle.field.specs.declared.Wrote.the-variants.{Bytes, Refused as NotWritten}
 use Rattle.field.proofs.Parts.{part-back}
 use Rattle.field.proofs.Writing.{too-little, enough}
-use Rattle.placement_file.specs.File.{listed, columnEntry, columnsJudged, columnsOf, entriesBytes, placementBytes, written, left}
+use Rattle.placement_file.specs.File.{listed, columnEntry, columnsJudged, columnsOf, entriesBytes, placementBytes, WroteAs}
 use Rattle.placement_file.proofs.Judging.{fits, sound-columns}
 use Rattle.placement_file.proofs.Listing.{listed-next, listed-end, entries-listed, length-entries}
 
@@ -90,9 +85,9 @@ module _ {vs os out₀ out : List ℕ} {at i : ℕ} (p : Putting vs os out₀ ou
 -- ---- what the writer answers and leaves, on each of its ways out
 
 module _ (vs os out : List ℕ) where
-  pub write-refused : {r : Refusal} → columnsJudged vs os ≡ Unsound r → (NotWritten r ≡ written (columnsOf vs os) out) × (out ≡ left (columnsOf vs os) out)
+  pub write-refused : {r : Refusal} → columnsJudged vs os ≡ Unsound r → WroteAs (columnsOf vs os) out out (NotWritten r)
   unfolding columnsOf
-  write-refused e = rw e (refl, refl)
+  write-refused e = rw e (record { answered = refl; bytes = refl })
 
   module _ (sound : columnsJudged vs os ≡ Sound) where
     pub columns-level : (length os ≡ length vs) × (length vs ≤ mostEntries)
@@ -101,11 +96,10 @@ module _ (vs os out : List ℕ) where
     size-is : 8 + 9 * length vs ≡ length (placementBytes (entries vs os))
     size-is = sym (length-bytes (entries vs os) ∙ ap (λ (k : ℕ). 8 + 9 * k) (length-entries vs os (columns-level .0)))
 
-    pub write-short : length out < 8 + 9 * length vs → (NotWritten (NoRoom (8 + 9 * length vs)) ≡ written (columnsOf vs os) out) × (out ≡ left (columnsOf vs os) out)
+    pub write-short : length out < 8 + 9 * length vs → WroteAs (columnsOf vs os) out out (NotWritten (NoRoom (8 + 9 * length vs)))
     unfolding columnsOf
-    write-short h = rw sound (too-little (placementBytes (entries vs os)) out size-is h)
+    write-short h = let t = too-little (placementBytes (entries vs os)) out size-is h in rw sound (record { answered = t .0; bytes = t .1 })
 
-    pub write-whole : 8 + 9 * length vs ≤ length out → {out′ : List ℕ} → out′ ≡ sets out 0 (placementBytes (entries vs os))
-        → (Bytes (8 + 9 * length vs) ≡ written (columnsOf vs os) out) × (out′ ≡ left (columnsOf vs os) out)
+    pub write-whole : 8 + 9 * length vs ≤ length out → {out′ : List ℕ} → out′ ≡ sets out 0 (placementBytes (entries vs os)) → WroteAs (columnsOf vs os) out out′ (Bytes (8 + 9 * length vs))
     unfolding columnsOf
-    write-whole h e = rw sound (enough (placementBytes (entries vs os)) out size-is h e)
+    write-whole h e = let t = enough (placementBytes (entries vs os)) out size-is h e in rw sound (record { answered = t .0; bytes = t .1 })

@@ -159,6 +159,11 @@ abbrev pub written : Outcome → List ℕ → Wrote
 written (refused r) out = NotWritten r
 written (placement es) out = wrote (placementBytes es) out
 
+-- the bytes and no others, and a refusal none
 abbrev pub left : Outcome → List ℕ → List ℕ
 left (refused r) out = out
 left (placement es) out = laid (placementBytes es) out
+
+pub record WroteAs (o : Outcome) (out out′ : List ℕ) (r : Wrote) : Type 0 where
+  pub answered : r ≡ written o out
+  pub bytes : out′ ≡ left o out

@@ -6,8 +6,8 @@ ghost use lib.ListN.{length};
 ghost use lib.Seq.{sets};
 ghost use Rattle.net.specs.Judge.{unless as orRefused, thenJudge};
 ghost use Rattle.net.specs.Load.{entries};
-ghost use Rattle.field.specs.Format.{tagOf, fieldAt, bytesOf};
-ghost use Rattle.placement_file.specs.File.{due, countIn, entryIn, entryInRange, owed, countJudged, entryAt, entryJudged, endJudged, bodyJudged, fileJudged, wire, offset, listed, placementOf, columnEntry, rangesJudged, columnsJudged, columnsOf, ReadAs, placementBytes, written, left};
+ghost use Rattle.field.specs.Format.{tagOf, bytesOf};
+ghost use Rattle.placement_file.specs.File.{due, countIn, entryIn, entryInRange, owed, countJudged, entryAt, entryJudged, endJudged, bodyJudged, fileJudged, wire, offset, listed, placementOf, columnEntry, rangesJudged, columnsJudged, columnsOf, ReadAs, placementBytes, WroteAs};
 use field::FieldRead;
 use field::Value;
 use field::Wrote;
@@ -179,13 +179,13 @@ fn judge_file(s: &[u8]) -> Judged
     judge_body(s, owed_in(s))
 }
 
-// Fills the columns with the first n entries of a file.
-fn fill(s: &[u8], n: usize, wires: &mut [u16], offsets: &mut [u32])
-    requires { ⌜ (n ≤ 4096) × (n ≤ length (now wires)) × (n ≤ length (now offsets)) ⌝ }
-    ensures { λ _. ⌜ (now (wires .exit) ≡ sets (now (wires .entry)) 0 (map wire (listed (entryAt (now (s .entry))) n 0))) × (now (offsets .exit) ≡ sets (now (offsets .entry)) 0 (map offset (listed (entryAt (now (s .entry))) n 0))) ⌝ }
+// Fills the columns with the first count entries of a file.
+fn fill(s: &[u8], count: usize, wires: &mut [u16], offsets: &mut [u32])
+    requires { ⌜ (count ≤ 4096) × (count ≤ length (now wires)) × (count ≤ length (now offsets)) ⌝ }
+    ensures { λ _. ⌜ (now (wires .exit) ≡ sets (now (wires .entry)) 0 (map wire (listed (entryAt (now (s .entry))) count 0))) × (now (offsets .exit) ≡ sets (now (offsets .entry)) 0 (map offset (listed (entryAt (now (s .entry))) count 0))) ⌝ }
 {
     let mut i: usize = 0;
-    while i < n {
+    while i < count {
         let e = entry_in(field::read_field(s, 5 + 9 * i));
         wires[i] = e.wire;
         offsets[i] = e.offset;
@@ -277,7 +277,7 @@ fn write_fields(wires: &[u16], offsets: &[u32], out: &mut [u8])
 
 // Writes the file of a placement. The columns are judged, and the room, before anything is written.
 pub fn write_placement(wires: &[u16], offsets: &[u32], out: &mut [u8]) -> PlacementWrote
-    ensures { λ r. ⌜ (r ≡ written (columnsOf (now (wires .entry)) (now (offsets .entry))) (now (out .entry))) × (now (out .exit) ≡ left (columnsOf (now (wires .entry)) (now (offsets .entry))) (now (out .entry))) ⌝ }
+    ensures { λ r. ⌜ WroteAs (columnsOf (now (wires .entry)) (now (offsets .entry))) (now (out .entry)) (now (out .exit)) r ⌝ }
 {
     let judged = judge_columns(wires, offsets);
     if let Judged::Refused(r) = judged {
