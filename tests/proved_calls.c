@@ -37,6 +37,64 @@ static uint64_t *lend_place(void)
                    (c).pin, (c).pins, (c).polarity, (c).polarities
 #define ENTRIES(e) (e).wire, (e).wires, (e).offset, (e).offsets
 
+static struct ref_answer read_net(const uint8_t *bytes, size_t length, struct ref_limits *limits,
+                                  struct net_columns to)
+{
+    fence_anew();
+    const uint8_t *file = LEND(bytes, length);
+    struct net_columns lent = lend_net(to);
+    uint32_t *limit = LEND(&limits->limit, 1), *cb = LEND(&limits->pin, 1);
+    uint8_t *repeater = LEND(&limits->type, 1);
+    uint64_t *place = lend_place();
+    uint32_t number = proved_read_net(file, length, limit, cb, repeater, COLUMNS(lent), place);
+    limits->limit = *limit;
+    limits->pin = *cb;
+    limits->type = *repeater;
+    TAKE_BACK(to.parent, lent.parent, to.parents);
+    TAKE_BACK(to.wire, lent.wire, to.wires);
+    TAKE_BACK(to.kind, lent.kind, to.kinds);
+    TAKE_BACK(to.pin, lent.pin, to.pins);
+    TAKE_BACK(to.polarity, lent.polarity, to.polarities);
+    return (struct ref_answer){number, *place};
+}
+
+static struct ref_answer read_placement(const uint8_t *bytes, size_t length,
+                                        struct entry_columns to)
+{
+    fence_anew();
+    const uint8_t *file = LEND(bytes, length);
+    struct entry_columns lent = lend_entries(to);
+    uint64_t *place = lend_place();
+    uint32_t number = proved_read_placement(file, length, ENTRIES(lent), place);
+    TAKE_BACK(to.wire, lent.wire, to.wires);
+    TAKE_BACK(to.offset, lent.offset, to.offsets);
+    return (struct ref_answer){number, *place};
+}
+
+static struct ref_answer write_net(struct ref_limits limits, struct net_columns net,
+                                   uint8_t *bytes, size_t room)
+{
+    fence_anew();
+    struct net_columns lent = lend_net(net);
+    uint8_t *out = LEND(bytes, room);
+    uint64_t *place = lend_place();
+    uint32_t number = proved_write_net(LIMITS(limits), COLUMNS(lent), out, room, place);
+    TAKE_BACK(bytes, out, room);
+    return (struct ref_answer){number, *place};
+}
+
+static struct ref_answer write_placement(struct entry_columns placement, uint8_t *bytes,
+                                         size_t room)
+{
+    fence_anew();
+    struct entry_columns lent = lend_entries(placement);
+    uint8_t *out = LEND(bytes, room);
+    uint64_t *place = lend_place();
+    uint32_t number = proved_write_placement(ENTRIES(lent), out, room, place);
+    TAKE_BACK(bytes, out, room);
+    return (struct ref_answer){number, *place};
+}
+
 static struct ref_answer judge(struct ref_limits limits, struct net_columns net)
 {
     fence_anew();
@@ -74,5 +132,7 @@ static struct ref_answer list_drives(struct ref_limits limits, struct net_column
 }
 
 const struct calls proved_calls = {
-    .name = "proved", .judge = judge, .check = check, .drives = list_drives,
+    .name = "proved", .read_net = read_net, .read_placement = read_placement,
+    .write_net = write_net, .write_placement = write_placement, .judge = judge, .check = check,
+    .drives = list_drives,
 };

@@ -5,6 +5,23 @@
 
 #include "calls.h"
 
+uint32_t proved_read_net(const uint8_t *bytes, size_t length,
+                         uint32_t *limit, uint32_t *cb, uint8_t *repeater,
+                         uint16_t *parent, size_t parents, uint32_t *wire, size_t wires,
+                         uint8_t *kind, size_t kinds, uint32_t *pin, size_t pins,
+                         uint8_t *polarity, size_t polarities, uint64_t *place);
+uint32_t proved_write_net(uint32_t limit, uint32_t cb, uint8_t repeater,
+                          const uint16_t *parent, size_t parents,
+                          const uint32_t *wire, size_t wires, const uint8_t *kind, size_t kinds,
+                          const uint32_t *pin, size_t pins,
+                          const uint8_t *polarity, size_t polarities,
+                          uint8_t *bytes, size_t room, uint64_t *place);
+uint32_t proved_read_placement(const uint8_t *bytes, size_t length,
+                               uint16_t *entry_wire, size_t entry_wires,
+                               uint32_t *offset, size_t offsets, uint64_t *place);
+uint32_t proved_write_placement(const uint16_t *entry_wire, size_t entry_wires,
+                                const uint32_t *offset, size_t offsets,
+                                uint8_t *bytes, size_t room, uint64_t *place);
 uint32_t proved_judge(uint32_t limit, uint32_t cb, uint8_t repeater,
                       const uint16_t *parent, size_t parents, const uint32_t *wire, size_t wires,
                       const uint8_t *kind, size_t kinds, const uint32_t *pin, size_t pins,
