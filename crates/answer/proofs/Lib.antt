@@ -1,0 +1,4 @@
+pub mod Laying
+pub mod Digits
+pub mod Example
+pub mod Determined

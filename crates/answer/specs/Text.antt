@@ -1,0 +1,90 @@
+-- Document 01, "The printed answer": each line, and the whole answer, as the bytes of its text.
+use Prim.Native.Nat.{ℕ, zero, suc, _+_, _/_, _%_}
+use mathlib.Core.Path.{_≡_}
+use mathlib.Core.List.{List, [], _∷_, _++_}
+use lib.ListN.{length, replicate}
+use lib.Seq.{sets}
+use Rattle.net.specs.declared.Refusal.{Refusal}
+use Rattle.net.specs.Refusal.{numberOf, placeOf}
+use Rattle.answer.specs.declared.Line.{Line}
+
+-- the decimal digits of q, none where it is 0; it has at most k
+unfoldable pub higher : ℕ → ℕ → List ℕ
+higher zero q = []
+higher (suc k) zero = []
+higher (suc k) (suc q) = higher k (suc q / 10) ++ ((48 + suc q % 10) ∷ [])
+
+-- the decimal digits of n: the last one, after those of the tens
+unfoldable pub digits : ℕ → List ℕ
+digits n = higher n (n / 10) ++ ((48 + n % 10) ∷ [])
+
+-- "least "
+abbrev pub least : List ℕ
+least = 108 ∷ 101 ∷ 97 ∷ 115 ∷ 116 ∷ 32 ∷ []
+
+-- "wire "
+abbrev pub wire : List ℕ
+wire = 119 ∷ 105 ∷ 114 ∷ 101 ∷ 32 ∷ []
+
+-- " offset "
+abbrev pub offset : List ℕ
+offset = 32 ∷ 111 ∷ 102 ∷ 102 ∷ 115 ∷ 101 ∷ 116 ∷ 32 ∷ []
+
+-- " drives "
+abbrev pub drives : List ℕ
+drives = 32 ∷ 100 ∷ 114 ∷ 105 ∷ 118 ∷ 101 ∷ 115 ∷ 32 ∷ []
+
+-- "source drives "
+abbrev pub source : List ℕ
+source = 115 ∷ 111 ∷ 117 ∷ 114 ∷ 99 ∷ 101 ∷ drives
+
+-- "refused "
+abbrev pub refused : List ℕ
+refused = 114 ∷ 101 ∷ 102 ∷ 117 ∷ 115 ∷ 101 ∷ 100 ∷ 32 ∷ []
+
+-- " place "
+abbrev pub place : List ℕ
+place = 32 ∷ 112 ∷ 108 ∷ 97 ∷ 99 ∷ 101 ∷ 32 ∷ []
+
+abbrev pub end : List ℕ
+end = 10 ∷ []
+
+-- a word and its number
+unfoldable pub said : List ℕ → ℕ → List ℕ
+said word n = word ++ digits n
+
+-- `least N`: "the count"
+unfoldable pub leastLine : ℕ → List ℕ
+leastLine n = said least n ++ end
+
+-- `wire W offset O drives L`: "one line an entry (wire number, offset, load)"
+unfoldable pub entryLine : ℕ → ℕ → ℕ → List ℕ
+entryLine w o l = ((said wire w ++ said offset o) ++ said drives l) ++ end
+
+-- `source drives L`: "and the source's load"
+unfoldable pub sourceLine : ℕ → List ℕ
+sourceLine l = said source l ++ end
+
+-- "A refusal prints one line, `refused N place P`."
+unfoldable pub refusedLine : Refusal → List ℕ
+refusedLine r = (said refused (numberOf r) ++ said place (placeOf r)) ++ end
+
+-- a line of at most 64 bytes as it is handed over: its bytes, zeros after them, and how many there are
+abbrev pub line : List ℕ → Line
+line bytes = record { text = sets (replicate 64 0) 0 bytes; bytes = length bytes }
+
+-- `bytes` stand in a buffer from the place `at` on, where `before` was; `next` is the place after them
+pub record Laid (before : List ℕ) (at : ℕ) (bytes after : List ℕ) (next : ℕ) : Type 0 where
+  pub ends : next ≡ at + length bytes
+  pub stands : after ≡ sets before at bytes
+
+-- the lines of the entries that three columns hold
+unfoldable pub entryLines : List ℕ → List ℕ → List ℕ → List ℕ
+entryLines [] os ls = []
+entryLines (w ∷ ws) [] ls = []
+entryLines (w ∷ ws) (o ∷ os) [] = []
+entryLines (w ∷ ws) (o ∷ os) (l ∷ ls) = entryLine w o l ++ entryLines ws os ls
+
+-- the whole answer of a net that has one
+unfoldable pub answerText : List ℕ → List ℕ → List ℕ → ℕ → List ℕ
+answerText ws os ls load = leastLine (length ws) ++ (entryLines ws os ls ++ sourceLine load)

@@ -1,0 +1,97 @@
+"""Net files in Python: bytes to a net and back, and the readable twin (hex with a comment for each field).
+
+A reader for pictures and examples: it stops at the first thing that is no net file, and says where.
+Which of document 01's refusals that is, ./mustorgyel says."""
+
+LIMITS, BRANCH, SINK, END = 0x01, 0x02, 0x03, 0x7F
+BODY = {LIMITS: (4, 4, 1), BRANCH: (2, 4), SINK: (2, 4, 4, 1), END: ()}
+
+
+class NotANet(Exception):
+    """The bytes are no net file; the message says where."""
+
+
+class Node:
+    """Node 0 is the source; a sink has a pin and a polarity, a branch point has neither."""
+
+    def __init__(self, parent, wire, pin=None, polarity=0):
+        self.parent, self.wire, self.pin, self.polarity = parent, wire, pin, polarity
+        self.children = []
+
+    @property
+    def is_sink(self):
+        return self.pin is not None
+
+
+class Net:
+    def __init__(self, limit, pin, repeater):
+        self.limit, self.pin, self.repeater = limit, pin, repeater
+        self.nodes = [Node(None, 0)]
+
+    def add(self, node):
+        if node.parent >= len(self.nodes) or self.nodes[node.parent].is_sink:
+            raise NotANet(f"node {len(self.nodes)} hangs under {node.parent}, which is no branch point before it")
+        self.nodes[node.parent].children.append(len(self.nodes))
+        self.nodes.append(node)
+        return len(self.nodes) - 1
+
+
+def fields(data):
+    """(tag, values) of each field up to the end field."""
+    at, tag = 0, None
+    while tag != END:
+        tag = data[at] if at < len(data) else None
+        if tag not in BODY:
+            raise NotANet(f"no field at byte {at}")
+        sizes = BODY[tag]
+        end = at + 3 + sum(sizes)
+        if end > len(data) or data[at + 1] * 256 + data[at + 2] != sum(sizes):
+            raise NotANet(f"the field at byte {at} has a wrong length or is cut")
+        at, values = at + 3, []
+        for size in sizes:
+            values.append(int.from_bytes(data[at:at + size], "big"))
+            at += size
+        yield tag, values
+    if at != len(data):
+        raise NotANet(f"bytes after the end, from byte {at}")
+
+
+def read(data):
+    """The net that a file holds."""
+    net = None
+    for tag, values in fields(data):
+        if (net is None) != (tag == LIMITS):
+            raise NotANet("the limits come first, and once")
+        if tag == LIMITS:
+            net = Net(*values)
+        elif tag != END:
+            net.add(Node(*values))
+    return net
+
+
+def field(tag, *values):
+    sizes = BODY[tag]
+    body = b"".join(value.to_bytes(size, "big") for value, size in zip(values, sizes, strict=True))
+    return bytes([tag]) + len(body).to_bytes(2, "big") + body
+
+
+def of_twin(text):
+    """The bytes of a readable twin: hex, and comments from # to the end of the line."""
+    return bytes.fromhex(" ".join(line.split("#")[0] for line in text.splitlines()))
+
+
+def twin(net, title):
+    """The readable twin of a net."""
+    kind = ("buffer", "inverter")[net.repeater]
+    lines = [(field(LIMITS, net.limit, net.pin, net.repeater), f"limits: C_U {net.limit}, C_b {net.pin}, {kind}")]
+    for number, node in enumerate(net.nodes[1:], 1):
+        what = f"node {number} under {node.parent}: wire {node.wire}"
+        if node.is_sink:
+            sign = "minus" if node.polarity else "plus"
+            sign = f", {sign}" if net.repeater else ""
+            lines.append((field(SINK, node.parent, node.wire, node.pin, node.polarity), f"{what}, sink, pin {node.pin}{sign}"))
+        else:
+            lines.append((field(BRANCH, node.parent, node.wire), f"{what}, branch point"))
+    lines.append((field(END), "end"))
+    rows = [f"{data.hex(' ').upper():<42}# {said}" for data, said in lines]
+    return "\n".join([f"# {line}" for line in title] + rows) + "\n"
