@@ -3,14 +3,17 @@ use Prim.Native.Nat.{ℕ, zero, suc, _+_, _-_, _*_, _≤_, _<_, min}
 use mathlib.Core.Path.{_≡_, refl}
 use native.Mathlib.Omega.{arith}
 use lib.ListN.{length}
-use Rattle.net.specs.Net.{Net, places}
-use Rattle.net.specs.Tree.{Hanging, none, sink, branch, hanging}
+use Rattle.net.specs.Net.{Net, places, kind, pin, polarity}
+use Rattle.net.specs.Net as columns
+use Rattle.net.specs.Tree.{Hanging, none, sink, branch, hanging, under}
 use Rattle.net.specs.Sound.{SoundNet}
 use Rattle.frontier.specs.Cell.{Kind, Cell}
 use Rattle.frontier.specs.Frontier.{State, lost, has, Acc, fail, all, ifz, width, wire, conv, join, closeAt, close, leaf, acc}
 use Rattle.states.specs.States.{SmallS}
-use Rattle.states.proofs.Leaves.{wire-0, wire-1, wire-small}
+use Rattle.states.proofs.Leaves.{wire-0, wire-1, wire-small, small-up}
 use Rattle.rows.specs.Rows.{SmallAcc}
+use Rattle.rows.specs.Sides.{sideOf}
+use Rattle.tables.specs.Tables.{liftOf}
 use Rattle.tables.proofs.Trees.{Short, short, wires, wires-few, width-few}
 
 -- of w wires: a count that leaves two for each wire up to k
@@ -77,3 +80,13 @@ module _ (τ : Cell) (eq : τ.cu ≡ τ.cb + τ.D) (pos : 1 ≤ τ.D) (small : �
   pub acc-small : {n : Net} → SoundNet n → (l v p : ℕ) → v + l < places n → p ≤ 1 → SmallAcc (acc τ (hanging n l v) p)
   acc-small {n} s l v p h q =
       to-small (width (hanging n l v)) (wires (hanging n l v) * 11000004) (acc τ (hanging n l v) p) (width-few s l v (omega arith)) (omega (arith, wires-few n l v h, s .few)) (acc-S (hanging n l v) p q (short s l v))
+
+  side-S : (k : ℕ) (f : Hanging) (c s q : ℕ) → q ≤ 1 → Short f → SmallS (wires f * 11000004) (sideOf τ k c s (2 * width f) (acc τ f q) q)
+  side-S zero f c s q l sh = close-S (width f) (wires f * 11000004) (acc τ f q) (acc-S f q l sh)
+  side-S (suc k) f c s q l sh = small-up 0 (wires f * 11000004) (leaf τ c s q) (omega arith) (leaf-S c s q)
+
+  pub lift-small : {n : Net} → SoundNet n → (i p : ℕ) → i < places n → p ≤ 1 → SmallS 100000000000 (liftOf τ n i p)
+  lift-small {n} s i p h l =
+      let f : Hanging = under n i in
+      small-up (wires f * 11000004 + 11000002) 100000000000 (liftOf τ n i p) (omega (arith, wires-few n (places n - suc i) i (omega arith), s .few))
+      (wire-S τ.kind (columns.wire n i) (wires f * 11000004) p (λ q. sideOf τ (kind n i) (pin n i) (polarity n i) (2 * width f) (acc τ f q) q) (s .wire-most i) l (λ q g. side-S (kind n i) f (pin n i) (polarity n i) q g (short s (places n - suc i) i)))

@@ -35,7 +35,7 @@ still-small {last = last} {from = from} {rows = rows} {rows′ = rows′} a minu
     subst SmallAcc (sym (slot-same rows rows′ minus minus 1 last last from few refl refl (hung-same a (omega arith) from 1 (omega arith) ne))) r
 
 -- what a count says
-count-of : (c : ℕ) (g : ℕ → ℕ) (m : ℕ) (f : ℕ → ℕ) → accOf c g ≡ all m f → c ≡ suc m
+pub count-of : (c : ℕ) (g : ℕ → ℕ) (m : ℕ) (f : ℕ → ℕ) → accOf c g ≡ all m f → c ≡ suc m
 count-of zero g m f e = absurd (let z : _≡_ {A = ℕ} 0 1 = cc in omega arith)
 count-of (suc c) g m f e = let q : c ≡ m = cc in ap suc q
 

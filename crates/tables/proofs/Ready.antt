@@ -33,6 +33,15 @@ fit {c} ok {n} s {t} {i} {v} {k} o lo hi = record {
   minus = subst SmallAcc (sym (o .row 1 (omega arith))) (acc-small (modelOf c) (ok .eq) (ok .pos) (ok .small) s (places n - i) v 1 (omega arith) (omega arith));
 }
 
+-- a node's state as the frontier has it, out of its slot
+pub side-is : (τ : model.Cell) {n : Net} {t : Tables} {i k : ℕ} → Holds τ n t (suc i) i k → {pin′ : ℕ} → pin′ ≡ pin n i → (q : ℕ) → q ≤ 1 → {z : State}
+    → z ≡ sideOf τ (kind n i) pin′ (polarity n i) (manyOf t k * 2) (slotOf t q k) q → z ≡ sideOf τ (kind n i) (pin n i) (polarity n i) (2 * width (under n i)) (acc τ (under n i) q) q
+side-is τ {n} {t} {i} {k} o {pin′} ep q l {z} e =
+    let m : manyOf t k * 2 ≡ 2 * width (under n i) = omega (arith, o .wide) in
+    e ∙ ap (λ (y : ℕ). sideOf τ (kind n i) y (polarity n i) (manyOf t k * 2) (slotOf t q k) q) ep
+    ∙ ap (λ (y : ℕ). sideOf τ (kind n i) (pin n i) (polarity n i) y (slotOf t q k) q) m
+    ∙ ap (λ (y : Acc). sideOf τ (kind n i) (pin n i) (polarity n i) (2 * width (under n i)) y q) (o .row q l)
+
 module _ {c : Cell} (ok : CellOk c) {n : Net} (s : SoundNet n) {t : Tables} {i : ℕ} (f : Filled (modelOf c) n t (suc i)) (lo : 1 ≤ i) (h : i < places n) where
   -- the slot of the wires under node i
   own-holds : Holds (modelOf c) n t (suc i) i (headOf t i)
@@ -60,14 +69,6 @@ module _ {c : Cell} (ok : CellOk c) {n : Net} (s : SoundNet n) {t : Tables} {i :
   -- the two states of wire i
   module _ {w′ pin′ : ℕ} {x r : Sides} (ew : w′ ≡ wire n i) (ep : pin′ ≡ pin n i)
       (a : NodeSides (modelOf c) (kind n i) pin′ (polarity n i) (manyOf t (headOf t i) * 2) (slotOf t 0 (headOf t i)) (slotOf t 1 (headOf t i)) x) (b : Lifted (modelOf c) w′ x r) where
-    side : (q : ℕ) → q ≤ 1 → (z : State) → z ≡ sideOf (modelOf c) (kind n i) pin′ (polarity n i) (manyOf t (headOf t i) * 2) (slotOf t q (headOf t i)) q
-        → z ≡ sideOf (modelOf c) (kind n i) (pin n i) (polarity n i) (2 * width (under n i)) (acc (modelOf c) (under n i) q) q
-    side q l z e =
-        let m : manyOf t (headOf t i) * 2 ≡ 2 * width (under n i) = omega (arith, own-holds .wide) in
-        e ∙ ap (λ (y : ℕ). sideOf (modelOf c) (kind n i) y (polarity n i) (manyOf t (headOf t i) * 2) (slotOf t q (headOf t i)) q) ep
-        ∙ ap (λ (y : ℕ). sideOf (modelOf c) (kind n i) (pin n i) (polarity n i) y (slotOf t q (headOf t i)) q) m
-        ∙ ap (λ (y : Acc). sideOf (modelOf c) (kind n i) (pin n i) (polarity n i) (2 * width (under n i)) y q) (own-holds .row q l)
-
     nd : ℕ → State
     nd q = sideOf (modelOf c) (kind n i) (pin n i) (polarity n i) (2 * width (under n i)) (acc (modelOf c) (under n i) q) q
 
@@ -75,16 +76,16 @@ module _ {c : Cell} (ok : CellOk c) {n : Net} (s : SoundNet n) {t : Tables} {i :
     unfolding nd
     plus-is =
         b .plus ∙ ap (λ (w : ℕ). wireOf (modelOf c) (model.kindOf (c .repeater)) w (st (x .plus)) (st (x .minus))) ew
-        ∙ ap (λ (z : State). wireOf (modelOf c) (model.kindOf (c .repeater)) (wire n i) z (st (x .minus))) (side 0 (omega arith) (st (x .plus)) (a .plus))
-        ∙ ap (wireOf (modelOf c) (model.kindOf (c .repeater)) (wire n i) (nd 0)) (side 1 (omega arith) (st (x .minus)) (a .minus))
+        ∙ ap (λ (z : State). wireOf (modelOf c) (model.kindOf (c .repeater)) (wire n i) z (st (x .minus))) (side-is (modelOf c) own-holds ep 0 (omega arith) (a .plus))
+        ∙ ap (wireOf (modelOf c) (model.kindOf (c .repeater)) (wire n i) (nd 0)) (side-is (modelOf c) own-holds ep 1 (omega arith) (a .minus))
         ∙ sym (wire-0 (modelOf c) (model.kindOf (c .repeater)) (wire n i) nd)
 
     pub minus-is : st (r .minus) ≡ liftOf (modelOf c) n i 1
     unfolding nd
     minus-is =
         b .minus ∙ ap (λ (w : ℕ). wireOf (modelOf c) (model.kindOf (c .repeater)) w (st (x .minus)) (st (x .plus))) ew
-        ∙ ap (λ (z : State). wireOf (modelOf c) (model.kindOf (c .repeater)) (wire n i) z (st (x .plus))) (side 1 (omega arith) (st (x .minus)) (a .minus))
-        ∙ ap (wireOf (modelOf c) (model.kindOf (c .repeater)) (wire n i) (nd 1)) (side 0 (omega arith) (st (x .plus)) (a .plus))
+        ∙ ap (λ (z : State). wireOf (modelOf c) (model.kindOf (c .repeater)) (wire n i) z (st (x .plus))) (side-is (modelOf c) own-holds ep 1 (omega arith) (a .minus))
+        ∙ ap (wireOf (modelOf c) (model.kindOf (c .repeater)) (wire n i) (nd 1)) (side-is (modelOf c) own-holds ep 0 (omega arith) (a .plus))
         ∙ sym (wire-1 (modelOf c) (model.kindOf (c .repeater)) (wire n i) nd)
 
     wide-enough : w′ ≤ 10000000

@@ -1,0 +1,4 @@
+pub mod Attaining
+pub mod Choosing
+pub mod Aiming
+pub mod Assembling

@@ -1,0 +1,7 @@
+pub mod Walking
+pub mod Ending
+pub mod Going
+pub mod Placing
+pub mod Cutting
+pub mod Deciding
+pub mod UnderWay

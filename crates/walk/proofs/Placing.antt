@@ -1,0 +1,99 @@
+-- A wire's offsets: as far apart as they may be, and then at the upper end. What they drive and hand up.
+use Prim.Native.Nat.{ℕ, zero, suc, _+_, _-_, _*_, _≤_, min}
+use mathlib.Core.Path.{_≡_, refl, sym, subst, ap, _∙_}
+use mathlib.Core.List.{List, [], _∷_, _++_, append-nil, append-assoc}
+use lib.ListN.{length, length-append, replicate}
+use native.Mathlib.Nat.{le-trans, le-refl}
+use native.Mathlib.Omega.{arith}
+use Rattle.frontier.specs.Cell.{Kind, buf, inv, Cell}
+use Rattle.frontier.specs.Plan.{GoodW, topW}
+use Rattle.frontier.specs.Frontier.{State, lost, has, T, req}
+use Rattle.frontier.proofs.Lower.{Tidy, T-mono, ceil-ok}
+use Rattle.frontier.proofs.Attained.{spread, spread-length, spread-good, spread-top, add-good, add-top}
+use Rattle.cuts.specs.Choice.{Under, Loads, One, Met}
+use Rattle.cuts.specs.Offsets.{steps, offsets}
+
+-- k more at the upper end
+abbrev pub stack : List ℕ → ℕ → ℕ → List ℕ
+stack os zero w = os
+stack os (suc k) w = stack (os ++ (w ∷ [])) k w
+
+-- r by spacing over a load h, and k at the upper end
+abbrev pub stacked : Cell → ℕ → ℕ → ℕ → ℕ → List ℕ
+stacked τ w h r k = stack (spread τ w 0 h r) k w
+
+-- these are the offsets that are written
+spread-steps : (τ : Cell) → τ.cu ≡ τ.cb + τ.D → (w at b r : ℕ) → spread τ w at b r ≡ steps w τ.D (min w (at + (τ.cu - b))) r
+unfolding spread steps
+spread-steps τ eq w at b zero = refl
+spread-steps τ eq w at b (suc r) =
+    let o : ℕ = min w (at + (τ.cu - b)) in
+    let d : τ.cu - τ.cb ≡ τ.D = omega arith in
+    ap (λ (os : List ℕ). o ∷ os) (spread-steps τ eq w o τ.cb r ∙ ap (λ (x : ℕ). steps w τ.D (min w (o + x)) r) d)
+
+stack-replicate : (os : List ℕ) (k w : ℕ) → stack os k w ≡ os ++ replicate k w
+stack-replicate os zero w = sym (append-nil os)
+stack-replicate os (suc k) w = stack-replicate (os ++ (w ∷ [])) k w ∙ append-assoc os (w ∷ []) (replicate k w)
+
+pub offsets-are : (τ : Cell) → τ.cu ≡ τ.cb + τ.D → (w h r k : ℕ) → offsets τ w h r k ≡ stacked τ w h r k
+offsets-are τ eq w h r k =
+    let z : 0 + (τ.cu - h) ≡ τ.cu - h = omega arith in
+    sym (stack-replicate (spread τ w 0 h r) k w ∙ ap (λ (os : List ℕ). os ++ replicate k w) (spread-steps τ eq w 0 h r ∙ ap (λ (x : ℕ). steps w τ.D (min w x) r) z))
+
+pub stack-length : (os : List ℕ) (k w : ℕ) → length (stack os k w) ≡ length os + k
+stack-length os zero w = omega arith
+stack-length os (suc k) w = omega (arith, stack-length (os ++ (w ∷ [])) k w, length-append os (w ∷ []))
+
+module _ (τ : Cell) (eq : τ.cu ≡ τ.cb + τ.D) (pos : 1 ≤ τ.D) where
+  stack-good : (w b k : ℕ) (os : List ℕ) → GoodW τ w 0 b os → topW τ w 0 b os ≤ τ.cu → GoodW τ w 0 b (stack os k w)
+  stack-good w b zero os g h = g
+  stack-good w b (suc k) os g h = stack-good w b k (os ++ (w ∷ [])) (add-good τ eq pos w 0 b os g h) (omega (arith, add-top τ eq pos w 0 b os))
+
+  stack-top : (w b k : ℕ) (os : List ℕ) → topW τ w 0 b os ≤ τ.cb → topW τ w 0 b (stack os k w) ≤ τ.cb
+  stack-top w b zero os h = h
+  stack-top w b (suc k) os h = stack-top w b k (os ++ (w ∷ [])) (add-top τ eq pos w 0 b os)
+
+  stack-topped : (w b k : ℕ) (os : List ℕ) → 1 ≤ k → topW τ w 0 b (stack os k w) ≤ τ.cb
+  stack-topped w b zero os h = absurd (omega arith)
+  stack-topped w b (suc k) os h = stack-top w b k (os ++ (w ∷ [])) (add-top τ eq pos w 0 b os)
+
+  T-fits : (v r : ℕ) → v ≤ τ.cu + r * τ.D → T τ v r ≤ τ.cu
+  T-fits v zero h = omega arith
+  T-fits v (suc r) h = omega arith
+
+  req-ok : (κ : Kind) (π v : ℕ) → v ≤ τ.cu + req τ κ π v * τ.D
+  unfolding req
+  req-ok buf π v = ceil-ok τ eq pos v
+  req-ok inv π v = omega (arith, ceil-ok τ eq pos v)
+
+  -- by spacing alone
+  plain-top : (w h r : ℕ) → h ≤ τ.cu → topW τ w 0 h (spread τ w 0 h r) ≤ T τ (w + h) r
+  plain-top w h r hc = le-trans (spread-top τ eq pos w 0 h r (omega arith) hc) (T-mono τ eq pos ((w - 0) + h) (w + h) r (T τ (w + h) r) (omega arith) (le-refl (T τ (w + h) r)))
+
+  under-fits : (s : State) (x n h : ℕ) → Tidy τ s → Under s x n h → h ≤ τ.cu
+  under-fits lost x n h t u = absurd u
+  under-fits (has m a b) zero n h t u = omega (arith, t .0, u .1)
+  under-fits (has m a b) (suc x) n h t u = omega (arith, t .0, t .1, u .1)
+
+  -- what a wire's choice comes to, with k more at the upper end
+  pub record Stands (κ : Kind) (π w m l h n : ℕ) (os : List ℕ) (k : ℕ) : Type 0 where
+    pub good : GoodW τ w 0 h os
+    pub count : n + length os ≤ m + k
+    pub top : k ≡ 0 → topW τ w 0 h os ≤ l
+    pub topped : 1 ≤ k → topW τ w 0 h os ≤ τ.cb
+
+  loads-le : (w h r more l : ℕ) → h ≤ τ.cu → Loads τ (w + h) r more l → topW τ w 0 h (stacked τ w h r more) ≤ l
+  loads-le w h r zero l hc k = le-trans (plain-top w h r hc) k
+  loads-le w h r (suc more) l hc k = le-trans (stack-topped w h (suc more) (spread τ w 0 h r) (omega arith)) k
+
+  pub stands : (κ : Kind) (π w : ℕ) (s : State) (m l x h r more k : ℕ) → Tidy τ s → (o : Met τ κ π w s m l x h r more) → Stands κ π w m l h (o .n) (stacked τ w h r (more + k)) k
+  stands κ π w s m l x h r more k t o =
+      let hc : h ≤ τ.cu = under-fits s x (o .n) h t (o .under) in
+      let v : w + h ≤ τ.cu + r * τ.D = subst (λ (y : ℕ). w + h ≤ τ.cu + y * τ.D) (sym (o .by .is)) (req-ok κ π (w + h)) in
+      let up : topW τ w 0 h (spread τ w 0 h r) ≤ τ.cu = le-trans (plain-top w h r hc) (T-fits (w + h) r v) in
+      record {
+        good = stack-good w h (more + k) (spread τ w 0 h r) (spread-good τ eq pos w 0 h r (omega arith) hc) up;
+        count = omega (arith, stack-length (spread τ w 0 h r) (more + k) w, spread-length τ eq pos w 0 h r, o .by .count);
+        top = λ z. let q : more + k ≡ more = omega arith in rw q (loads-le w h r more l hc (o .by .load));
+        topped = λ z. stack-topped w h (more + k) (spread τ w 0 h r) (omega arith);
+      }

@@ -1,0 +1,63 @@
+-- What the walk down decides of each wire, and what its decisions come to.
+use Prim.Native.Nat.{ℕ, zero, suc, _+_, _-_, _*_, _≤_, _<_, min}
+use mathlib.Core.Path.{_≡_}
+use mathlib.Core.List.{List}
+use lib.ListN.{length, getD}
+use Rattle.net.specs.Net.{Net, places, parent, wire, kind, pin, polarity}
+use Rattle.net.specs.Tree.{hanging, under, tree}
+use Rattle.frontier.specs.Cell.{Cell, turn}
+use Rattle.frontier.specs.Plan.{planOf, count, GoodW, topW, Settled}
+use Rattle.frontier.specs.Frontier.{State, has, Acc, fail, all, acc, conv, close, width}
+use Rattle.frontier.specs.Cert.{Table}
+use Rattle.tables.specs.Tables.{liftOf}
+use Rattle.cuts.specs.declared.Cut.{Cut}
+use Rattle.cuts.specs.Choice.{f3, Budgeted}
+use Rattle.cuts.specs.Offsets.{offsets}
+
+-- the count c and the load l are within what x says of the surplus e
+abbrev pub Within : Acc → ℕ → ℕ → ℕ → Type 0
+Within fail c l e = ⊥
+Within (all m g) c l e = (c ≤ m + e) × (l ≤ g e)
+
+abbrev pub Alive : Acc → Type 0
+Alive fail = ⊥
+Alive (all m g) = Unit {0}
+
+-- what the walk knows of wire i under a point of polarity p, where its node has the polarity q and the surplus e
+abbrev pub WireOk : Cell → Net → Table → ℕ → ℕ → ℕ → ℕ → ℕ → Type 0
+WireOk τ n t p i q e zero =
+    GoodW τ (wire n i) 0 (t .b i) (t .offs i) × (t .n i + length (t .offs i) ≤ t .cnt i) × (topW τ (wire n i) 0 (t .b i) (t .offs i) ≤ t .top i) × (turn τ.kind p (length (t .offs i)) ≡ q)
+    × ((c l : ℕ) → Within (acc τ (under n i) q) c l e → (c ≤ t .n i) × (l ≤ t .b i))
+WireOk τ n t p i q e (suc k) =
+    (turn τ.kind p (length (t .offs i)) ≡ polarity n i) × GoodW τ (wire n i) 0 (pin n i) (t .offs i) × (length (t .offs i) ≤ t .cnt i) × (topW τ (wire n i) 0 (pin n i) (t .offs i) ≤ t .top i)
+
+-- what wire i is worth at the polarity p, and the wires after it under its parent
+pub record Parts (τ : Cell) (n : Net) (p i : ℕ) : Type 0 where
+  pub m : ℕ
+  pub a : ℕ
+  pub b : ℕ
+  pub M : ℕ
+  pub g : ℕ → ℕ
+  pub lifted : liftOf τ n i p ≡ has m a b
+  pub rest : acc τ (hanging n (places n - suc i) (parent n i)) p ≡ all M g
+
+-- the cut z of wire i is good, for a surplus of e at its parent
+pub record Decided (τ : Cell) (n : Net) (p e i : ℕ) (z : Cut) : Type 0 where
+  pub parts : Parts τ n p i
+  pub few : z .taken ≤ e
+  pub share : f3 (z .taken) (parts .a) (parts .b) (min (parts .a) τ.cb) + parts .g (e - z .taken) ≤ conv τ (parts .a) (parts .b) (parts .g) e
+  pub sense : z .sense ≤ 1
+  pub live : kind n i ≡ 0 → Alive (acc τ (under n i) (z .sense))
+  pub under : ℕ
+  pub ok : (t : Table) → t .offs i ≡ offsets τ (wire n i) (z .below) (z .spaced) (z .topped) → t .cnt i ≡ parts .m + z .taken → t .top i ≡ f3 (z .taken) (parts .a) (parts .b) (min (parts .a) τ.cb)
+      → t .n i ≡ under → t .b i ≡ z .below → WireOk τ n t p i (z .sense) (z .left) (kind n i)
+
+-- the offsets that the decisions give each wire
+abbrev pub offsOf : Cell → Net → List ℕ → List ℕ → List ℕ → ℕ → List ℕ
+offsOf τ n below spaced topped i = offsets τ (wire n i) (getD below i 0) (getD spaced i 0) (getD topped i 0)
+
+-- they settle the tree from the source's polarity p with its surplus e
+abbrev pub Walked : Cell → Net → ℕ → ℕ → List ℕ → List ℕ → List ℕ → Type 0
+Walked τ n p e below spaced topped =
+    (N h h₁ : ℕ) → close τ (2 * width (tree n)) (acc τ (tree n) p) ≡ has N h h₁ → Budgeted (acc τ (tree n) p) e N h
+    → Settled τ p (tree n) (planOf (offsOf τ n below spaced topped) (tree n)) × (count (tree n) (planOf (offsOf τ n below spaced topped) (tree n)) ≤ N)
