@@ -11,3 +11,4 @@ pub mod EaseKeepsLegal
 pub mod Easing
 pub mod Examples
 pub mod Determined
+pub mod Refusals

@@ -190,7 +190,7 @@ same-bytes s n by e =
 
 -- ---- "A net file read and written again gives the same bytes"
 
-answered-read : (lent : Net) (o : Outcome) (l : Limits) (m : ℕ) → Read l m ≡ answered (room lent) o → (n : Net) × (o ≡ read n) × (m ≤ room lent) × (n .limits ≡ l) × (places n ≡ m) × (filled lent o ≡ laidOver lent 0 n)
+pub answered-read : (lent : Net) (o : Outcome) (l : Limits) (m : ℕ) → Read l m ≡ answered (room lent) o → (n : Net) × (o ≡ read n) × (m ≤ room lent) × (n .limits ≡ l) × (places n ≡ m) × (filled lent o ≡ laidOver lent 0 n)
 answered-read lent (refused r) l m e = never (cc)
 answered-read lent (read n) l m e = by (ltb (room lent) (places n)) refl e
   where

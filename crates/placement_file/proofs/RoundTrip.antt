@@ -135,7 +135,7 @@ pub length-map : (f : Entry → ℕ) (es : List Entry) → length (map f es) ≡
 length-map f [] = refl
 length-map f (e ∷ es) = ap suc (length-map f es)
 
-entries-back : (es : List Entry) → entries (map wire es) (map offset es) ≡ es
+pub entries-back : (es : List Entry) → entries (map wire es) (map offset es) ≡ es
 unfolding entries
 entries-back [] = refl
 entries-back (e ∷ es) = ap (λ (r : List Entry). e ∷ r) (entries-back es)

@@ -9,10 +9,8 @@ use lib.Seq.{sets, sets-eq, take-at}
 use lib.Dec.{ltb}
 use borrow.Author.Tests.{ltb-false, le-ltb}
 use Rattle.net.specs.Choose.{pick}
-use Rattle.net.specs.Refusal.{numberOf}
 use Rattle.net.specs.declared.Entry.{Entry}
-use Rattle.net.specs.declared.Refusal.{Refusal}
-use Rattle.net.specs.declared.Refusal.the-variants.{FileEnds, NotDue, OutOfRange, WrongParent, Childless, BytesAfterEnd, WrongColumns, NoLegalPlacement, NoRoom, Misplaced, Overloaded, WrongParity, NotEased}
+use Rattle.net.proofs.Refusals.{numbered}
 use Rattle.field.specs.Format.{wroteNumber, wroteCount}
 use Rattle.field.specs.declared.Wrote.{Wrote}
 use Rattle.field.specs.declared.Wrote.the-variants.{Bytes, Refused as NotWritten}
@@ -21,22 +19,6 @@ use Rattle.placement_file.specs.declared.PlacementRead.{PlacementRead}
 use Rattle.placement_file.specs.declared.PlacementRead.the-variants.{Read, Refused}
 use Rattle.placement_file.specs.File.{wire, offset, Outcome, placement, refused, placementOf, columnsOf, answer, ReadAs, readNumber, readCount, placementBytes, written, WroteAs}
 use Rattle.placement_file.proofs.RoundTrip.{never, length-map, file-bytes, bytes-file, columns-back, columns-placed}
-
--- "0 is success": no refusal has that number
-numbered : (r : Refusal) → 1 ≤ numberOf r
-numbered (FileEnds p) = omega arith
-numbered (NotDue p) = omega arith
-numbered (OutOfRange p) = omega arith
-numbered (WrongParent p) = omega arith
-numbered (Childless p) = omega arith
-numbered (BytesAfterEnd p) = omega arith
-numbered WrongColumns = omega arith
-numbered NoLegalPlacement = omega arith
-numbered (NoRoom n) = omega arith
-numbered (Misplaced p) = omega arith
-numbered (Overloaded p) = omega arith
-numbered (WrongParity p) = omega arith
-numbered (NotEased p) = omega arith
 
 pub read-zero : (r : PlacementRead) → readNumber r ≡ 0 → r ≡ Read (readCount r)
 read-zero (Read n) e = refl

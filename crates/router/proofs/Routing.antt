@@ -1,0 +1,123 @@
+-- What the two readers' answers say of the files where the lent columns are as long as any file needs: 9 is never given, and the columns' first places hold what was read.
+use Prim.Native.Nat.{ℕ, _≤_, min}
+use mathlib.Core.Path.{_≡_, refl, sym, ap, _∙_}
+use mathlib.Core.Bool.{Bool, true, false}
+use mathlib.Core.List.{List, map}
+use lib.ListN.{length, take, length-map}
+use lib.Seq.{sets, length-sets}
+use lib.Dec.{ltb}
+use native.Mathlib.Omega.{arith}
+use borrow.Author.Tests.{le-ltb, ltb-false}
+use Rattle.net.specs.declared.Limits.{Limits}
+use Rattle.net.specs.declared.Entry.{Entry}
+use Rattle.net.specs.declared.Refusal.{Refusal}
+use Rattle.net.specs.declared.Refusal.the-variants.{NoRoom}
+use Rattle.net.specs.declared.Judged.{Judged}
+use Rattle.net.specs.declared.Judged.the-variants.{Sound, Refused as Unsound}
+use Rattle.net.specs.Figures.{mostPlaces, mostEntries}
+use Rattle.net.specs.Choose.{pick}
+use Rattle.net.specs.Net.{Net, places}
+use Rattle.net.proofs.SoundSays.{sound-says}
+use Rattle.field.proofs.Numbers.{AreBytes}
+use Rattle.net_file.specs.declared.NetRead.{NetRead}
+use Rattle.net_file.specs.declared.NetRead.the-variants.{Read as NetWasRead, Refused as NetRefused}
+use Rattle.net.specs.Refusal.{judgedNumber}
+use Rattle.net.specs.Load.{entries, offsetsOn, sourceDrives}
+use Rattle.net.specs.Checked.{checked}
+use Rattle.checker.specs.Verdict.{verdictOf, verdict}
+use Rattle.router.specs.Routed.{verdictNumber}
+use Rattle.net_file.specs.NetFile as net_file
+use Rattle.net_file.specs.NetFile.{netOf, room, firstPlaces, ReadNet}
+use Rattle.net_file.proofs.ReadWrite.{Same, same-bytes, answered-read, read-net, front-is}
+use Rattle.placement_file.specs.declared.PlacementRead.{PlacementRead}
+use Rattle.placement_file.specs.declared.PlacementRead.the-variants.{Read, Refused}
+use Rattle.placement_file.specs.File.{Outcome, placement, refused, outcome, owed, entryAt, listed, fileJudged, placementOf, wire, offset, answer, ReadAs}
+use Rattle.placement_file.proofs.Judging.{sound-few}
+use Rattle.placement_file.proofs.Listing.{length-listed}
+
+never : {A : Type 0} → _≡_ {A = ℕ} 0 1 → A
+never e = absurd (omega arith)
+
+-- the checker's verdict as a number
+pub verdict-number : (n : Net) (vs os : List ℕ) → verdictNumber (verdict n vs os) ≡ judgedNumber (checked n vs os)
+verdict-number n vs os = by (checked n vs os)
+  where
+    by : (j : Judged) → verdictNumber (verdictOf j (length vs) (sourceDrives n (offsetsOn (entries vs os)))) ≡ judgedNumber j
+    by Sound = refl
+    by (Unsound x) = refl
+
+-- ---- the net file
+
+pub net-read : {s : List ℕ} {lent left : Net} {r : NetRead} {l : Limits} {m : ℕ} → AreBytes s → ReadNet s lent left r → r ≡ NetWasRead l m → (m ≤ room left) × (netOf s ≡ net_file.read (firstPlaces m l left))
+net-read {s} {lent} {left} {r} {l} {m} by a e =
+    let reads : ReadNet s lent left (NetWasRead l m) = rw e at a in
+    let (n, o, most, _, _, over) = answered-read lent (netOf s) l m (reads .answer) in
+    let (n′, o′, is) = read-net s by lent left l m reads in
+    (rw (reads .columns ∙ over) (simp length-sets most), o′ ∙ ap net_file.read (sym is))
+
+pub net-refused : {s : List ℕ} {lent left : Net} {r : NetRead} {x : Refusal} → AreBytes s → mostPlaces ≤ room lent → ReadNet s lent left r → r ≡ NetRefused x → netOf s ≡ net_file.refused x
+net-refused {s} {lent} {left} {r} {x} by long a e = told (netOf s) refl (sym e ∙ a .answer)
+  where
+    told : (o : net_file.Outcome) → netOf s ≡ o → NetRefused x ≡ net_file.answered (room lent) o → o ≡ net_file.refused x
+    told (net_file.refused y) o h = cc
+    told (net_file.read n) o h =
+        let few : places n ≤ mostPlaces = sound-says n (same-bytes s n by o .sound) .few in
+        let f : ltb (room lent) (places n) ≡ false = le-ltb (room lent) (places n) (omega arith) in
+        let z : NetRefused x ≡ NetWasRead (n .limits) (places n) = rw f at h in
+        never (cc)
+
+-- ---- the placement file
+
+few-entries : (s : List ℕ) (es : List Entry) → placementOf s ≡ placement es → length es ≤ mostEntries
+unfolding placementOf
+few-entries s es e = by (fileJudged s) refl e
+  where
+    by : (j : Judged) → fileJudged s ≡ j → outcome j (listed (entryAt s) (owed s) 0) ≡ placement es → length es ≤ mostEntries
+    by Sound sound h =
+        let same : listed (entryAt s) (owed s) 0 ≡ es = cc in
+        omega (arith, sound-few s sound, ap length same, length-listed (entryAt s) (owed s) 0)
+    by (Unsound x) sound h = never (cc)
+
+pub record Entries (s : List ℕ) (n : ℕ) (vs os : List ℕ) : Type 0 where
+  pub es : List Entry
+  pub is : placementOf s ≡ placement es
+  pub in-wires : n ≤ length vs
+  pub in-offsets : n ≤ length os
+  pub wires : take n vs ≡ map wire es
+  pub offsets : take n os ≡ map offset es
+
+module _ (s : List ℕ) {vs os vs′ os′ : List ℕ} {r : PlacementRead} (a : ReadAs (placementOf s) vs os vs′ os′ r) where
+  pub placement-read : {n : ℕ} → r ≡ Read n → Entries s n vs′ os′
+  placement-read {n} e = told (placementOf s) refl
+    where
+      told : (o : Outcome) → placementOf s ≡ o → Entries s n vs′ os′
+      told (refused y) o = let z : Read n ≡ Refused y = sym e ∙ a .answered ∙ ap (answer (min (length vs) (length os))) o in never (cc)
+      told (placement es) o = by (ltb (min (length vs) (length os)) (length es)) refl
+        where
+          by : (b : Bool) → ltb (min (length vs) (length os)) (length es) ≡ b → Entries s n vs′ os′
+          by true t = let z : Read n ≡ Refused (NoRoom (length es)) = sym e ∙ a .answered ∙ rw (o, t) in never (cc)
+          by false t =
+              let z : Read n ≡ Read (length es) = sym e ∙ a .answered ∙ rw (o, t) in
+              let k : length es ≡ n = cc in
+              let most : length es ≤ min (length vs) (length os) = ltb-false (min (length vs) (length os)) (length es) t in
+              let v : vs′ ≡ sets vs 0 (map wire es) = a .wires ∙ rw (o, t) in
+              let w : os′ ≡ sets os 0 (map offset es) = a .offsets ∙ rw (o, t) in
+              record {
+                es = es;
+                is = o;
+                in-wires = rw v (simp length-sets (omega arith));
+                in-offsets = rw w (simp length-sets (omega arith));
+                wires = rw v (front-is vs (map wire es) n (length-map es wire ∙ k) (omega arith));
+                offsets = rw w (front-is os (map offset es) n (length-map es offset ∙ k) (omega arith));
+              }
+
+  pub placement-refused : {x : Refusal} → mostEntries ≤ min (length vs) (length os) → r ≡ Refused x → placementOf s ≡ refused x
+  placement-refused {x} long e = told (placementOf s) refl
+    where
+      told : (o : Outcome) → placementOf s ≡ o → o ≡ refused x
+      told (refused y) o = let z : Refused x ≡ Refused y = sym e ∙ a .answered ∙ ap (answer (min (length vs) (length os))) o in cc
+      told (placement es) o =
+          let few : length es ≤ mostEntries = few-entries s es o in
+          let f : ltb (min (length vs) (length os)) (length es) ≡ false = le-ltb (min (length vs) (length os)) (length es) (omega arith) in
+          let z : Refused x ≡ Read (length es) = sym e ∙ a .answered ∙ rw (o, f) in
+          never (cc)

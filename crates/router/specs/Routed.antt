@@ -1,0 +1,26 @@
+-- Document 01: "the checker is exported to it over the two files' bytes, answering the number alone: the net file's refusal first, then the placement file's, then the checker's."
+use Prim.Native.Nat.{ℕ}
+use mathlib.Core.List.{List, map}
+use Rattle.net.specs.Refusal.{numberOf, judgedNumber}
+use Rattle.net.specs.Net.{Net}
+use Rattle.net.specs.Checked.{checked}
+use Rattle.net_file.specs.NetFile as net_file
+use Rattle.placement_file.specs.File as placement_file
+use Rattle.checker.specs.declared.Verdict.{Verdict}
+use Rattle.checker.specs.declared.Verdict.the-variants.{Legal, Refused}
+
+abbrev pub verdictNumber : Verdict → ℕ
+verdictNumber (Legal count source) = 0
+verdictNumber (Refused r) = numberOf r
+
+-- what a placement file says, on a net
+abbrev pub onNet : Net → placement_file.Outcome → ℕ
+onNet n (placement_file.refused r) = numberOf r
+onNet n (placement_file.placement es) = judgedNumber (checked n (map placement_file.wire es) (map placement_file.offset es))
+
+abbrev pub fromNet : net_file.Outcome → placement_file.Outcome → ℕ
+fromNet (net_file.refused r) p = numberOf r
+fromNet (net_file.read n) p = onNet n p
+
+unfoldable pub routed : List ℕ → List ℕ → ℕ
+routed net placement = fromNet (net_file.netOf net) (placement_file.placementOf placement)
