@@ -1,5 +1,5 @@
 -- "A carried placement is legal": after success the columns hold a legal placement of the second net. The cut column holds the carried entries, and easing keeps every legal placement.
-use Prim.Native.Nat.{ℕ, _≤_}
+use Prim.Native.Nat.{ℕ}
 use mathlib.Core.Path.{_≡_, refl, sym, ap, _∙_}
 use mathlib.Core.List.{List}
 use native.Mathlib.Omega.{arith}
@@ -10,7 +10,6 @@ use Rattle.net.specs.declared.Judged.the-variants.{Sound, Refused}
 use Rattle.net.specs.Figures.{mostEntries}
 use Rattle.net.specs.Net.{Net}
 use Rattle.net.specs.Load.{entries}
-use Rattle.net.specs.Legal.{Legal}
 use Rattle.net.specs.Judge.{thenJudge, judged}
 use Rattle.net.specs.Checked.{checked}
 use Rattle.net.specs.Ease.{carried, easeJudged}

@@ -1,7 +1,7 @@
 -- A second net that passes the judgement of 13 eases the first: the places of node 0 are 0 in both, the nodes were looked at, and past the columns' end there is 0.
-use Prim.Native.Nat.{ℕ, zero, suc, _+_, _-_, _≤_, _<_}
-use mathlib.Core.Path.{_≡_, refl, sym, ap, _∙_}
-use mathlib.Core.Bool.{Bool, true}
+use Prim.Native.Nat.{ℕ, zero, suc, _-_, _≤_, _<_}
+use mathlib.Core.Path.{_≡_, refl, sym, _∙_}
+use mathlib.Core.Bool.{true}
 use mathlib.Core.List.{List}
 use native.Mathlib.Omega.{arith}
 use native.Mathlib.Decide.{decLt}
@@ -9,14 +9,12 @@ use lib.Dec.{eqb, leb}
 use lib.ListN.{length, getD, List·getD-eq-default}
 use lib.Seq.{ext-getD}
 use borrow.Author.Tests.{eqb-true, leb-true}
-use Rattle.net.specs.declared.Limits.{Limits}
 use Rattle.net.specs.declared.Node.{Node}
-use Rattle.net.specs.declared.Judged.{Judged}
-use Rattle.net.specs.declared.Judged.the-variants.{Sound, Refused}
+use Rattle.net.specs.declared.Judged.the-variants.{Sound}
 use Rattle.net.specs.declared.Refusal.the-variants.{OutOfRange, WrongColumns, NotEased}
 use Rattle.net.specs.Choose.{both}
 use Rattle.net.specs.Net.{Net, places, parent, wire, kind, pin, polarity, node}
-use Rattle.net.specs.Judge.{unless, thenJudge, columnsFit, limitsInRange, sourceClear, nodesJudged, childed, judged}
+use Rattle.net.specs.Judge.{unless, columnsFit, limitsInRange, sourceClear, judged}
 use Rattle.net.specs.Sound.{SoundNet}
 use Rattle.net.specs.Ease.{Eases, limitsEase, nodeEases, nodesEase, easeJudged}
 use Rattle.net.proofs.Tests.{both-met, unless-met, then-met}

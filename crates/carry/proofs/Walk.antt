@@ -1,17 +1,14 @@
 -- The walk of 13 over the nodes: what is left decides the answer.
-use Prim.Native.Nat.{ℕ, suc, _+_, _-_, _≤_, _<_}
-use mathlib.Core.Path.{_≡_, refl, sym, ap, _∙_}
+use Prim.Native.Nat.{ℕ, _+_, _-_, _≤_, _<_}
+use mathlib.Core.Path.{_≡_, refl, sym, _∙_}
 use mathlib.Core.Bool.{Bool, true, false}
 use native.Mathlib.Omega.{arith}
-use lib.Dec.{eqb}
 use borrow.Author.Tests.{eq-eqb, ne-eqb}
 use Rattle.net.specs.declared.Node.{Node}
-use Rattle.net.specs.declared.Judged.{Judged}
 use Rattle.net.specs.declared.Judged.the-variants.{Sound, Refused}
 use Rattle.net.specs.declared.Refusal.the-variants.{NotEased}
-use Rattle.net.specs.Choose.{both}
 use Rattle.net.specs.Net.{Net, places, node}
-use Rattle.net.specs.Judge.{unless, thenJudge}
+use Rattle.net.specs.Judge.{unless}
 use Rattle.net.specs.Ease.{limitsEase, nodeEases, nodesEase, easeJudged}
 use Rattle.net.proofs.Each.{Going, going-start, going-stop, going-next, going-end}
 

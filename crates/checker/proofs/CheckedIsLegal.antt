@@ -1,26 +1,26 @@
 -- The checker's definition says 0 exactly for a legal placement: `checked` is Sound just where the net is sound, the columns fit and their placement is legal.
 -- Each of its three walks (10, 11, 12) is Sound just where what it tests holds at every step.
 use Prim.Native.Nat.{ℕ, zero, suc, _+_, _-_, _≤_, _<_}
-use mathlib.Core.Path.{_≡_, refl, sym, subst, ap, _∙_}
+use mathlib.Core.Path.{_≡_, refl, sym, _∙_}
 use mathlib.Core.Bool.{Bool, true, false}
 use mathlib.Core.Logic.{_↔_}
 use mathlib.Core.List.{List, [], _∷_}
 use native.Mathlib.Omega.{arith}
-use native.Mathlib.Decide.{ℕ-discrete, decLt}
+use native.Mathlib.Decide.{ℕ-discrete}
 use lib.Dec.{eqb, ltb, leb}
-use borrow.Author.Tests.{eqb-true, ltb-true, leb-true, ltb-false, eq-eqb, ne-eqb, lt-ltb, le-ltb, le-leb}
+use borrow.Author.Tests.{eqb-true, ltb-true, leb-true, eq-eqb, ne-eqb, lt-ltb, le-ltb, le-leb}
 use Rattle.net.specs.declared.Entry.{Entry}
 use Rattle.net.specs.declared.Judged.{Judged}
-use Rattle.net.specs.declared.Judged.the-variants.{Sound, Refused}
+use Rattle.net.specs.declared.Judged.the-variants.{Sound}
 use Rattle.net.specs.declared.Refusal.{Refusal}
 use Rattle.net.specs.declared.Refusal.the-variants.{WrongColumns, Misplaced, Overloaded, WrongParity}
 use Rattle.net.specs.Choose.{pick, both}
 use Rattle.net.specs.Net.{Net, places, wire, kind}
 use Rattle.net.specs.Load.{entries, offsetsOn, drivers}
-use Rattle.net.specs.Legal.{Each, After, higher, further, Stands, InOrder, start, Sink, sense, OneSense, Legal}
+use Rattle.net.specs.Legal.{Each, After, higher, further, Stands, InOrder, start, sense, OneSense, Legal}
 use Rattle.net.specs.Judge.{unless, thenJudge, judged}
 use Rattle.net.specs.Checked.{placementFits, onItsWire, notLower, placedFrom, withinLimit, firstSink, hasSense, oneSense, placementJudged, columnsJudged, checked}
-use Rattle.net.proofs.Tests.{never, both-met, both-true, unless-met, then-met}
+use Rattle.net.proofs.Tests.{both-met, both-true, unless-met, then-met}
 use Rattle.net.proofs.Each.{each-met, each-sound}
 use Rattle.checker.specs.Verdict.{LegalColumns}
 

@@ -5,7 +5,7 @@ use mathlib.Core.Bool.{Bool, true, false}
 use mathlib.Core.List.{List, [], _∷_, _++_}
 use native.Mathlib.Omega.{arith}
 use native.Mathlib.Numerals.{add-one}
-use lib.Dec.{eqb, leb}
+use lib.Dec.{leb}
 use lib.ListN.{length, getD, drop, drop-of-length-le}
 use lib.Seq.{drop-cons}
 use borrow.Author.Tests.{le-leb, lt-leb, eq-eqb, ne-eqb}
@@ -14,7 +14,7 @@ use Rattle.net.specs.declared.Judged.{Judged}
 use Rattle.net.specs.declared.Judged.the-variants.{Sound, Refused}
 use Rattle.net.specs.declared.Refusal.the-variants.{WrongColumns, Misplaced, Overloaded}
 use Rattle.net.specs.Figures.{mostEntries}
-use Rattle.net.specs.Choose.{pick, both}
+use Rattle.net.specs.Choose.{both}
 use Rattle.net.specs.Net.{Net, kind}
 use Rattle.net.specs.Load.{entries}
 use Rattle.net.specs.Legal.{start}

@@ -1,7 +1,6 @@
 -- The order of the checker's refusals: how the answers of its parts make up the verdict and the list of loads.
-use Prim.Native.Nat.{ℕ, zero, suc, _+_, _≤_, _<_}
-use mathlib.Core.Path.{_≡_, refl, sym, ap, _∙_}
-use mathlib.Core.Bool.{Bool, true, false}
+use Prim.Native.Nat.{ℕ, _+_, _≤_, _<_}
+use mathlib.Core.Path.{_≡_, refl, sym, _∙_}
 use mathlib.Core.List.{List}
 use native.Mathlib.Omega.{arith}
 use lib.Dec.{eqb, leb}
@@ -13,10 +12,9 @@ use Rattle.net.specs.declared.Judged.the-variants.{Sound, Refused}
 use Rattle.net.specs.declared.Refusal.{Refusal}
 use Rattle.net.specs.declared.Refusal.the-variants.{WrongColumns, Overloaded, NoRoom}
 use Rattle.net.specs.Figures.{mostEntries}
-use Rattle.net.specs.Choose.{both}
 use Rattle.net.specs.Net.{Net, places}
 use Rattle.net.specs.Load.{entries, offsetsOn, driven, sourceDrives, drivers, loadBelow}
-use Rattle.net.specs.Legal.{InOrder, start}
+use Rattle.net.specs.Legal.{start}
 use Rattle.net.specs.Sound.{SoundNet}
 use Rattle.net.specs.Judge.{unless, thenJudge, judged}
 use Rattle.net.specs.Checked.{placementFits, placedFrom, withinLimit, oneSense, placementJudged, checked}

@@ -10,7 +10,7 @@ use lib.Dec.{eqb}
 use borrow.Author.Tests.{eq-eqb, ne-eqb}
 use Rattle.net.specs.Choose.{pick}
 use Rattle.net.specs.Net.{Net, places, parent, wire, kind, pin, polarity}
-use Rattle.net.specs.Tree.{Hanging, none, sink, branch, hung, hanging}
+use Rattle.net.specs.Tree.{Hanging, sink, branch, hanging}
 use Rattle.net.specs.Load.{handsUp, handedBy, loadBelow}
 use Rattle.net.specs.Sound.{SoundNet}
 

@@ -1,17 +1,17 @@
 -- Two answers that meet one contract are equal.
-use Prim.Native.Nat.{ℕ, suc, _≤_, _<_}
+use Prim.Native.Nat.{ℕ, _≤_, _<_}
 use mathlib.Core.Path.{_≡_, refl, sym, ap, _∙_}
 use mathlib.Core.List.{List}
 use native.Mathlib.Omega.{arith}
 use native.Mathlib.Decide.{decLt}
-use lib.ListN.{length, getD}
+use lib.ListN.{getD}
 use lib.Seq.{ext-getD}
 use Rattle.net.specs.Net.{Net}
 use Rattle.net.specs.Load.{loadBelow, handedUp, driven}
 use Rattle.load.specs.declared.Found.{Found}
 use Rattle.load.specs.declared.Found.the-variants.{At, Nothing}
 use Rattle.load.specs.Next.{Next, NextIs}
-use Rattle.load.specs.First.{Begins, Firsts, Filled}
+use Rattle.load.specs.First.{Begins, Filled}
 
 -- the lowest-numbered child is one
 not-before : {parents : List ℕ} {v after i j : ℕ} → Next parents v after i → Next parents v after j → i < j → ⊥

@@ -1,13 +1,13 @@
 -- Where the entries of each wire begin. One pass fills the table: at wire i it has passed just the entries on wires before i.
-use Prim.Native.Nat.{ℕ, suc, _≤_, _<_, _-_, _+_}
-use mathlib.Core.Path.{_≡_, refl, sym, ap, _∙_}
+use Prim.Native.Nat.{ℕ, suc, _≤_, _<_, _+_}
+use mathlib.Core.Path.{_≡_, refl, _∙_}
 use mathlib.Core.List.{List}
 use native.Mathlib.Omega.{arith}
 use borrow.Author.Count.{below-more}
 use lib.ListN.{length, getD, set, length-set}
 use lib.Seq.{getD-set-same, getD-set-other}
 use Rattle.net.specs.Figures.{mostPlaces}
-use Rattle.load.specs.First.{Rising, Begins, Firsts, Filled}
+use Rattle.load.specs.First.{Rising, Begins, Filled}
 
 -- the table is filled below i, and k entries are passed
 pub record Filling (vs : List ℕ) (n : ℕ) (before first : List ℕ) (i k : ℕ) : Type 0 where

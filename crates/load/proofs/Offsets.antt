@@ -1,15 +1,13 @@
 -- The offsets of wire i are the part of the list from where its entries begin to where those of the next wire do.
 -- So what the wire hands up is told by the last of them, and what each drives by its place in the list.
 use Prim.Native.Nat.{ℕ, zero, suc, _-_, _<_, _≤_, _+_}
-use mathlib.Core.Path.{_≡_, refl, ap, sym, _∙_}
-use mathlib.Core.List.{List, [], _∷_, _++_}
+use mathlib.Core.Path.{_≡_, refl, ap, _∙_}
+use mathlib.Core.List.{List, [], _∷_}
 use native.Mathlib.Omega.{arith}
 use native.Mathlib.Decide.{ℕ-discrete, decLt}
 use lib.ListN.{length, getD, length-append, List·getD-append}
 use lib.Seq.{slice, length-slice, getD-take, getD-drop, getD-append-add}
-use lib.Dec.{eqb}
 use borrow.Author.Tests.{eq-eqb, ne-eqb}
-use Rattle.net.specs.Choose.{pick}
 use Rattle.net.specs.Load.{entries, offsetsOn, drives, handsUp, joined}
 use Rattle.load.specs.First.{Begins}
 

@@ -1,11 +1,10 @@
 -- The loop that sums over the wires below a node: the sum so far, with what hangs past the last child found, is the load below the node.
 use Prim.Native.Nat.{ℕ, zero, suc, _-_, _<_, _≤_, _+_}
-use mathlib.Core.Path.{_≡_, refl, ap, sym, subst, _∙_}
+use mathlib.Core.Path.{_≡_, refl, ap, subst, _∙_}
 use mathlib.Core.Bool.{Bool, true, false}
 use mathlib.Core.List.{List}
 use native.Mathlib.Omega.{arith}
 use native.Mathlib.Decide.{ℕ-discrete}
-use lib.ListN.{length}
 use lib.Dec.{eqb}
 use borrow.Author.Tests.{eq-eqb, ne-eqb}
 use Rattle.net.specs.Choose.{pick}

@@ -1,6 +1,6 @@
 -- What one wire hands up and what its entries drive, told by the table of where its entries begin.
 use Prim.Native.Nat.{ℕ, zero, suc, _-_, _<_, _≤_, _+_}
-use mathlib.Core.Path.{_≡_, refl, ap, sym, _∙_}
+use mathlib.Core.Path.{_≡_, refl, ap, _∙_}
 use mathlib.Core.List.{List, []}
 use native.Mathlib.Omega.{arith}
 use native.Mathlib.Numerals.{add-one}
@@ -9,7 +9,7 @@ use lib.ListN.{length, getD}
 use lib.Seq.{slice, slice-empty, length-slice}
 use Rattle.net.specs.Figures.{mostWire}
 use Rattle.net.specs.Net.{Net, places, wire}
-use Rattle.net.specs.Load.{entries, offsetsOn, drives, handsUp, handedUp, loadBelow, drivenOn, driven, joined}
+use Rattle.net.specs.Load.{entries, offsetsOn, handedUp, loadBelow, drivenOn, driven}
 use Rattle.net.specs.Legal.{start, Stands}
 use Rattle.load.specs.First.{Begins}
 use Rattle.load.specs.Asks.{Placed}

@@ -1,5 +1,5 @@
 -- `carry::cut_to` meets its contract. The invariant is Cut.antt's.
-use Prim.Native.Nat.{ℕ, _≤_, _-_}
+use Prim.Native.Nat.{_≤_, _-_}
 use native.Mathlib.Omega.{arith}
 use lib.ListN.{length}
 use Rattle.carry.proofs.Cut.{Cutting, cutting-none, cutting-more, cutting-all}

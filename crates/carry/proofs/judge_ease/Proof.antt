@@ -7,6 +7,10 @@ use borrow.Author.Needs.{needs}
 use Rattle.carry.proofs.judge_ease.Statement.{statement}
 use Rattle.carry.proofs.judge_ease.Tie as tie
 
+-- the entry, from where the slices are known
+abbrev start : tie.After-shared-slice-known10 → tie.Start
+start c = c .before .before .before .before .before .before .before .before .before .before
+
 limits-ease-requires : tie.Need-limits-ease-requires
 limits-ease-requires c κs = search needs
 
@@ -17,7 +21,9 @@ returns-2 : tie.Need-returns-2
 returns-2 c = size-stop _ _ _ (c .before .before .limits-ease .ensures) (not-false _ (c .before .if1 .left)) (c .if2 .taken)
 
 nodes-ease-requires : tie.Need-nodes-ease-requires
-nodes-ease-requires c κs = (level (c .before .before .before .before .before .before .before .before .before .before .before .before .before .pre .0), (level (c .before .before .before .before .before .before .before .before .before .before .before .before .before .pre .1), c .if2 .left))
+nodes-ease-requires c κs =
+    let s = start (c .before .before .before) in
+    (level (s .pre .0), (level (s .pre .1), c .if2 .left))
 
 returns-3 : tie.Need-returns-3
 returns-3 c = c .nodes-ease .ensures ∙ nodes-last _ _ _ (c .before .before .before .limits-ease .ensures) (not-false _ (c .before .before .if1 .left)) (c .before .if2 .left)

@@ -1,5 +1,5 @@
 -- `carry::nodes_ease` meets its contract. The invariant is Walk.antt's: the nodes from i on decide the answer.
-use Prim.Native.Nat.{ℕ, _≤_, _-_}
+use Prim.Native.Nat.{_≤_, _-_}
 use native.Mathlib.Omega.{arith}
 use borrow.Author.Tests.{not-true, not-false}
 use lib.ListN.{length}
@@ -16,18 +16,23 @@ Inv-loop parent wire kind pin polarity parent2 wire2 kind2 pin2 polarity2 i₀ i
 abbrev μ-loop : tie.MeasureT-loop
 μ-loop parent wire kind pin polarity parent2 wire2 kind2 pin2 polarity2 i₀ i = length parent - i
 
+-- the entry, from where the slices are known
+abbrev start : tie.After-shared-slice-known10 Inv-loop μ-loop → tie.Start Inv-loop μ-loop
+start c = c .before .before .before .before .before .before .before .before .before .before
+
 loop-holds : tie.Need-loop-holds Inv-loop μ-loop
-loop-holds c = (omega arith, c .before .before .before .before .before .before .before .before .before .before .pre .0 .some, easing-start)
+loop-holds c = (omega arith, start c .pre .0 .some, easing-start)
 
 node-at-requires : tie.Need-node-at-requires Inv-loop μ-loop
 node-at-requires c κs =
-    let l = c .before .before .before .before .before .before .before .before .before .before .before .before .pre .0 in
+    let l = start (c .before .before) .pre .0 in
     record { parents = omega arith; wires = omega (arith, l .wires); kinds = omega (arith, l .kinds); pins = omega (arith, l .pins); polarities = omega (arith, l .polarities) }
 
 node-at-requires-2 : tie.Need-node-at-requires-2 Inv-loop μ-loop
 node-at-requires-2 c κs =
-    let l = c .before .before .before .before .before .before .before .before .before .before .before .before .before .pre .1 .0 in
-    let e = c .before .before .before .before .before .before .before .before .before .before .before .before .before .pre .1 .1 in
+    let s = start (c .before .before .before) in
+    let l = s .pre .1 .0 in
+    let e = s .pre .1 .1 in
     record { parents = omega (arith, e); wires = omega (arith, e, l .wires); kinds = omega (arith, e, l .kinds); pins = omega (arith, e, l .pins); polarities = omega (arith, e, l .polarities) }
 
 node-eases-requires : tie.Need-node-eases-requires Inv-loop μ-loop

@@ -4,6 +4,10 @@ use borrow.Author.Needs.{needs}
 use Rattle.checker.proofs.begin.Statement.{statement}
 use Rattle.checker.proofs.begin.Tie as tie
 
+-- the entry, from where the slices are known
+abbrev start : tie.After-shared-slice-known7 → tie.Start
+start c = c .before .before .before .before .before .before .before
+
 judge-requires : tie.Need-judge-requires
 judge-requires c κs = search needs
 
@@ -11,7 +15,9 @@ enum-told : tie.Need-enum-told
 enum-told c = search needs
 
 returns : tie.Need-returns
-returns c = net-first _ (c .before .before .before .before .before .before .before .before .before .before .args .wires .now) (c .before .before .before .before .before .before .before .before .before .before .args .offsets .now) _ (c .before .before .judge .ensures) _ (c .enum-told .given .1)
+returns c =
+    let s = start (c .before .before .before) in
+    net-first _ (s .args .wires .now) (s .args .offsets .now) _ (c .before .before .judge .ensures) _ (c .enum-told .given .1)
 
 enum-told-2 : tie.Need-enum-told-2
 enum-told-2 c = search needs
@@ -20,7 +26,9 @@ entries-stand-requires : tie.Need-entries-stand-requires
 entries-stand-requires c κs = search needs
 
 returns-2 : tie.Need-returns-2
-returns-2 c = then-stood _ (c .before .before .before .before .before .before .before .before .before .before .before .args .wires .now) (c .before .before .before .before .before .before .before .before .before .before .before .args .offsets .now) _ (c .before .before .before .judge .ensures) (c .before .enum-told2 .given .1) _ (c .entries-stand .ensures _ (has-wires (sound-net _ (c .before .before .before .before .before .before .before .before .before .before .before .args .wires .now) (c .before .before .before .before .before .before .before .before .before .before .before .args .offsets .now) _ (c .before .before .before .judge .ensures) (c .before .enum-told2 .given .1))))
+returns-2 c =
+    let s = start (c .before .before .before .before) in
+    then-stood _ (s .args .wires .now) (s .args .offsets .now) _ (c .before .before .before .judge .ensures) (c .before .enum-told2 .given .1) _ (c .entries-stand .ensures _ (has-wires (sound-net _ (s .args .wires .now) (s .args .offsets .now) _ (c .before .before .before .judge .ensures) (c .before .enum-told2 .given .1))))
 
 pub begin-spec : {M : Type 1} → statement M
 begin-spec =

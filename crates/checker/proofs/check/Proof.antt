@@ -5,6 +5,10 @@ use borrow.Author.Needs.{needs}
 use Rattle.checker.proofs.check.Statement.{statement}
 use Rattle.checker.proofs.check.Tie as tie
 
+-- the entry, from where the slices are known
+abbrev start : tie.After-shared-slice-known7 → tie.Start
+start c = c .before .before .before .before .before .before .before
+
 begin-requires : tie.Need-begin-requires
 begin-requires c κs = search needs
 
@@ -12,16 +16,22 @@ enum-known-begun : tie.Need-enum-known-begun
 enum-known-begun c = search needs
 
 returns : tie.Need-returns
-returns c = begun-refused _ (c .before .before .before .before .before .before .before .before .before .before .before .args .wires .now) (c .before .before .before .before .before .before .before .before .before .before .before .args .offsets .now) _ (c .before .before .before .begin .ensures) _ (c .before .begun .given .1)
+returns c =
+    let s = start (c .before .before .before .before) in
+    begun-refused _ (s .args .wires .now) (s .args .offsets .now) _ (c .before .before .before .begin .ensures) _ (c .before .begun .given .1)
 
 enum-told : tie.Need-enum-told
 enum-told c = search needs
 
 weigh-requires : tie.Need-weigh-requires
-weigh-requires c κs = begun-says _ (c .before .before .before .before .before .before .before .before .before .before .args .wires .now) (c .before .before .before .before .before .before .before .before .before .before .args .offsets .now) _ (c .before .before .begin .ensures) (c .enum-told .given .1)
+weigh-requires c κs =
+    let s = start (c .before .before .before) in
+    begun-says _ (s .args .wires .now) (s .args .offsets .now) _ (c .before .before .begin .ensures) (c .enum-told .given .1)
 
 returns-2 : tie.Need-returns-2
-returns-2 c = c .weigh .ensures ∙ weighed-last _ (c .before .before .before .before .before .before .before .before .before .before .before .args .wires .now) (c .before .before .before .before .before .before .before .before .before .before .before .args .offsets .now) _ (c .before .before .before .begin .ensures) (c .before .enum-told .given .1)
+returns-2 c =
+    let s = start (c .before .before .before .before) in
+    c .weigh .ensures ∙ weighed-last _ (s .args .wires .now) (s .args .offsets .now) _ (c .before .before .before .begin .ensures) (c .before .enum-told .given .1)
 
 pub check-spec : {M : Type 1} → statement M
 check-spec =

@@ -1,5 +1,5 @@
 -- `checker::entries_within_limit` meets its contract. The invariant: what is left of the loads decides the answer.
-use Prim.Native.Nat.{ℕ, suc, _≤_, _<_, _-_}
+use Prim.Native.Nat.{_≤_, _-_}
 use mathlib.Core.Path.{_≡_, refl, sym, _∙_}
 use native.Mathlib.Omega.{arith}
 use native.Mathlib.Numerals.{add-one}
@@ -21,6 +21,10 @@ Inv-loop limits parent wire kind pin polarity wires offsets first most entry₀ 
 abbrev μ-loop : tie.MeasureT-loop
 μ-loop limits parent wire kind pin polarity wires offsets first most entry₀ entry = length wires - entry
 
+-- the entry, from where the slices are known
+abbrev start : tie.After-shared-slice-known7 Inv-loop μ-loop → tie.Start Inv-loop μ-loop
+start c = c .before .before .before .before .before .before .before
+
 cast-most : tie.Need-cast-most Inv-loop μ-loop
 cast-most c = omega arith
 
@@ -28,12 +32,12 @@ loop-holds : tie.Need-loop-holds Inv-loop μ-loop
 loop-holds c = (omega arith, refl)
 
 drives-requires : tie.Need-drives-requires Inv-loop μ-loop
-drives-requires c κs = record { placed = c .before .before .before .before .before .before .before .before .before .before .pre; within = omega arith }
+drives-requires c κs = record { placed = start (c .before .before .before) .pre; within = omega arith }
 
 returns : tie.Need-returns Inv-loop μ-loop
 returns c =
     let l = c .before .before .before .loop in
-    let m = driven-length (c .before .before .before .before .before .before .before .before .before .before .before .before .pre) in
+    let m = driven-length (start (c .before .before .before .before .before) .pre) in
     sym (l .inv .1 ∙ within-stop _ _ (l .entry) (omega (arith, m)) (omega (arith, c .before .drives .ensures, c .if1 .taken)))
 
 add-entry : tie.Need-add-entry Inv-loop μ-loop
@@ -45,13 +49,13 @@ loop-less c = omega arith
 loop-again : tie.Need-loop-again Inv-loop μ-loop
 loop-again c =
     let l = c .before .before .before .loop in
-    let m = driven-length (c .before .before .before .before .before .before .before .before .before .before .before .before .pre) in
+    let m = driven-length (start (c .before .before .before .before .before) .pre) in
     (omega arith, rw add-one (l .inv .1 ∙ within-next _ _ (l .entry) (omega (arith, m)) (omega (arith, c .before .drives .ensures, c .if1 .left))))
 
 returns-2 : tie.Need-returns-2 Inv-loop μ-loop
 returns-2 c =
     let l = c .before .loop in
-    let m = driven-length (c .before .before .before .before .before .before .before .before .before .before .pre) in
+    let m = driven-length (start (c .before .before .before) .pre) in
     sym (l .inv .1 ∙ within-end _ _ (l .entry) (omega (arith, m)))
 
 pub entries-within-limit-spec : {M : Type 1} → statement M

@@ -1,5 +1,4 @@
 -- `checker::entry_stands` meets its contract: a return for each test.
-use native.Mathlib.Omega.{arith}
 use Rattle.checker.proofs.Standing.{on-none, on-no-wire, past-wire, next-wire, lower-wire, same-wire}
 use borrow.Author.Needs.{needs}
 use Rattle.checker.proofs.entry_stands.Statement.{statement}

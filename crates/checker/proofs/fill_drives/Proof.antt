@@ -1,6 +1,5 @@
 -- `checker::fill_drives` meets its contract. The invariant: the first k places hold the first k loads, and the others are as they came.
-use Prim.Native.Nat.{ℕ, suc, _≤_, _<_, _-_, _+_}
-use mathlib.Core.Path.{_≡_, refl, sym, ap, _∙_}
+use Prim.Native.Nat.{_≤_, _-_}
 use native.Mathlib.Omega.{arith}
 use lib.ListN.{length}
 use Rattle.net.specs.Net.{net}
@@ -17,17 +16,21 @@ Inv-loop limits parent wire kind pin polarity wires offsets first out₀ k₀ ou
 abbrev μ-loop : tie.MeasureT-loop
 μ-loop limits parent wire kind pin polarity wires offsets first out₀ k₀ out k = length wires - k
 
+-- the entry, from where the slices are known
+abbrev start : tie.After-slice-known Inv-loop μ-loop → tie.Start Inv-loop μ-loop
+start c = c .before .before .before .before .before .before .before .before
+
 loop-holds : tie.Need-loop-holds Inv-loop μ-loop
 loop-holds c = (omega arith, stored-none)
 
 drives-requires : tie.Need-drives-requires Inv-loop μ-loop
-drives-requires c κs = record { placed = c .before .before .before .before .before .before .before .before .before .before .pre .0; within = omega arith }
+drives-requires c κs = record { placed = start (c .before .before) .pre .0; within = omega arith }
 
 mul-out : tie.Need-mul-out Inv-loop μ-loop
-mul-out c = omega (arith, c .before .before .before .before .before .before .before .before .before .before .before .pre .1, c .before .before .loop .inv .1 .long)
+mul-out c = omega (arith, start (c .before .before .before) .pre .1, c .before .before .loop .inv .1 .long)
 
 slice-write-out : tie.Need-slice-write-out Inv-loop μ-loop
-slice-write-out c = omega (arith, c .before .before .before .before .before .before .before .before .before .before .before .pre .1, c .before .before .loop .inv .1 .long)
+slice-write-out c = omega (arith, start (c .before .before .before) .pre .1, c .before .before .loop .inv .1 .long)
 
 add-k : tie.Need-add-k Inv-loop μ-loop
 add-k c = omega arith
@@ -36,13 +39,17 @@ loop-less : tie.Need-loop-less Inv-loop μ-loop
 loop-less c = omega arith
 
 loop-again : tie.Need-loop-again Inv-loop μ-loop
-loop-again c = (omega arith, stored-more (c .before .before .loop .inv .1) (omega (arith, c .before .before .before .before .before .before .before .before .before .before .before .pre .1)) (omega (arith, driven-length (c .before .before .before .before .before .before .before .before .before .before .before .pre .0))) _ (c .drives .ensures))
+loop-again c =
+    let s = start (c .before .before .before) in
+    (omega arith, stored-more (c .before .before .loop .inv .1) (omega (arith, s .pre .1)) (omega (arith, driven-length (s .pre .0))) _ (c .drives .ensures))
 
 same-length : tie.Need-same-length Inv-loop μ-loop
 same-length c = c .before .loop .inv .1 .long
 
 returns : tie.Need-returns Inv-loop μ-loop
-returns c = let m = driven-length (c .before .before .before .before .before .before .before .before .before .before .pre .0) in stored-all (c .before .loop .inv .1) (omega (arith, m)) (omega (arith, m, c .before .before .before .before .before .before .before .before .before .before .pre .1))
+returns c =
+    let s = start (c .before .before) in
+    let m = driven-length (s .pre .0) in stored-all (c .before .loop .inv .1) (omega (arith, m)) (omega (arith, m, s .pre .1))
 
 pub fill-drives-spec : {M : Type 1} → statement M
 fill-drives-spec =

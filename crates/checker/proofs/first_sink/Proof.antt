@@ -1,5 +1,5 @@
 -- `checker::first_sink` meets its contract. The invariant: the lowest-numbered sink is the lowest from i on.
-use Prim.Native.Nat.{ℕ, suc, _≤_, _<_, _-_}
+use Prim.Native.Nat.{_≤_, _-_}
 use mathlib.Core.Path.{_≡_, refl, sym, _∙_}
 use native.Mathlib.Omega.{arith}
 use lib.ListN.{length}

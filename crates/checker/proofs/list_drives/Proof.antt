@@ -5,6 +5,10 @@ use borrow.Author.Needs.{needs}
 use Rattle.checker.proofs.list_drives.Statement.{statement}
 use Rattle.checker.proofs.list_drives.Tie as tie
 
+-- the entry, from where the slices are known
+abbrev start : tie.After-slice-known → tie.Start
+start c = c .before .before .before .before .before .before .before .before
+
 begin-requires : tie.Need-begin-requires
 begin-requires c κs = search needs
 
@@ -12,34 +16,40 @@ enum-known-begun : tie.Need-enum-known-begun
 enum-known-begun c = search needs
 
 returns : tie.Need-returns
-returns c = list-refused _ (c .before .before .before .before .before .before .before .before .before .before .before .before .args .wires .now) (c .before .before .before .before .before .before .before .before .before .before .before .before .args .offsets .now) _ (c .before .before .before .begin .ensures) (c .before .before .before .before .before .before .before .before .before .before .before .before .args .out .now) _ (c .before .begun .given .1)
+returns c =
+    let s = start (c .before .before .before .before) in
+    list-refused _ (s .args .wires .now) (s .args .offsets .now) _ (c .before .before .before .begin .ensures) (s .args .out .now) _ (c .before .begun .given .1)
 
 enum-told : tie.Need-enum-told
 enum-told c = search needs
 
 returns-2 : tie.Need-returns-2
-returns-2 c = list-no-room _ (c .before .before .before .before .before .before .before .before .before .before .before .before .args .wires .now) (c .before .before .before .before .before .before .before .before .before .before .before .before .args .offsets .now) _ (c .before .before .before .begin .ensures) (c .before .enum-told .given .1) (c .before .before .before .before .before .before .before .before .before .before .before .before .args .out .now) (c .if1 .taken)
+returns-2 c =
+    let s = start (c .before .before .before .before) in
+    list-no-room _ (s .args .wires .now) (s .args .offsets .now) _ (c .before .before .before .begin .ensures) (c .before .enum-told .given .1) (s .args .out .now) (c .if1 .taken)
 
 first-entries-requires : tie.Need-first-entries-requires
 first-entries-requires c κs =
-    let s = begun-says _ (c .before .before .before .before .before .before .before .before .before .before .before .before .before .args .wires .now) (c .before .before .before .before .before .before .before .before .before .before .before .before .before .args .offsets .now) _ (c .before .before .before .before .begin .ensures) (c .before .before .enum-told .given .1) in
+    let s = begun-says _ (start (c .before .before .before .before .before) .args .wires .now) (start (c .before .before .before .before .before) .args .offsets .now) _ (c .before .before .before .before .begin .ensures) (c .before .before .enum-told .given .1) in
     (stood-rising s, (s .sound .few, refl))
 
 fill-drives-requires : tie.Need-fill-drives-requires
 fill-drives-requires c κs =
-    let s = begun-says _ (c .before .before .before .before .before .before .before .before .before .before .before .before .before .before .before .before .args .wires .now) (c .before .before .before .before .before .before .before .before .before .before .before .before .before .before .before .before .args .offsets .now) _ (c .before .before .before .before .before .before .before .begin .ensures) (c .before .before .before .before .before .enum-told .given .1) in
+    let s = begun-says _ (start (c .before .before .before .before .before .before .before .before) .args .wires .now) (start (c .before .before .before .before .before .before .before .before) .args .offsets .now) _ (c .before .before .before .before .before .before .before .begin .ensures) (c .before .before .before .before .before .enum-told .given .1) in
     (stood-placed s (c .before .before .first-entries .ensures .firsts), c .before .before .before .before .if1 .left)
 
 load-below-requires : tie.Need-load-below-requires
 load-below-requires c κs =
-    let s = begun-says _ (c .before .before .before .before .before .before .before .before .before .before .before .before .before .before .before .before .before .before .before .before .args .wires .now) (c .before .before .before .before .before .before .before .before .before .before .before .before .before .before .before .before .before .before .before .before .args .offsets .now) _ (c .before .before .before .before .before .before .before .before .before .before .before .begin .ensures) (c .before .before .before .before .before .before .before .before .before .enum-told .given .1) in
+    let s = begun-says _ (start (c .before .before .before .before .before .before .before .before .before .before .before .before) .args .wires .now) (start (c .before .before .before .before .before .before .before .before .before .before .before .before) .args .offsets .now) _ (c .before .before .before .before .before .before .before .before .before .before .before .begin .ensures) (c .before .before .before .before .before .before .before .before .before .enum-told .given .1) in
     record { placed = stood-placed s (c .before .before .before .before .before .before .first-entries .ensures .firsts); within = s .sound .some }
 
 same-length : tie.Need-same-length
 same-length c = search needs
 
 returns-3 : tie.Need-returns-3
-returns-3 c = listed _ (c .before .before .before .before .before .before .before .before .before .before .before .before .before .before .before .before .before .before .before .before .before .args .wires .now) (c .before .before .before .before .before .before .before .before .before .before .before .before .before .before .before .before .before .before .before .before .before .args .offsets .now) _ (c .before .before .before .before .before .before .before .before .before .before .before .before .begin .ensures) (c .before .before .before .before .before .before .before .before .before .before .enum-told .given .1) (c .before .before .before .before .before .before .before .before .before .before .before .before .before .before .before .before .before .before .before .before .before .args .out .now) _ (c .load-below .result) (c .before .before .before .before .before .before .before .before .before .if1 .left) (c .before .before .before .before .fill-drives .ensures) (c .load-below .ensures)
+returns-3 c =
+    let s = start (c .before .before .before .before .before .before .before .before .before .before .before .before .before) in
+    listed _ (s .args .wires .now) (s .args .offsets .now) _ (c .before .before .before .before .before .before .before .before .before .before .before .before .begin .ensures) (c .before .before .before .before .before .before .before .before .before .before .enum-told .given .1) (s .args .out .now) _ (c .load-below .result) (c .before .before .before .before .before .before .before .before .before .if1 .left) (c .before .before .before .before .fill-drives .ensures) (c .load-below .ensures)
 
 pub list-drives-spec : {M : Type 1} → statement M
 list-drives-spec =

@@ -1,15 +1,13 @@
 -- The cycle of calls {handed_up, load_below}: a node asks each wire below it and a wire asks the node at its lower end.
 -- The falling number is twice (1,024 less the node number), plus one for a wire. The loop is Scan.antt's; the cases of a wire are Wire.antt's.
-use Prim.Native.Nat.{ℕ, suc, _<_, _≤_, _+_, _-_, _*_}
-use mathlib.Core.Path.{_≡_, refl, sym, _∙_}
+use Prim.Native.Nat.{ℕ, _<_, _+_, _-_, _*_}
+use mathlib.Core.Path.{sym}
 use native.Mathlib.Omega.{arith}
-use borrow.Author.Needs.{needs}
-use borrow.Author.Tests.{eq-eqb}
 use borrow.Fn.Kinds.{In}
 use borrow.Fn.PlainCycle.{Measures, is, falls, and}
 use lib.ListN.{length}
 use Rattle.net.specs.Net.{net}
-use Rattle.net.specs.Load.{entries, offsetsOn, loadBelow}
+use Rattle.net.specs.Load.{entries, offsetsOn}
 use Rattle.load.proofs.Wire.{load-fits, end-within, last-fits, handed-past, handed-clear}
 use Rattle.load.proofs.Scan.{load-sink, Scan, scan-start, scan-found, scan-next, scan-most, scan-over}
 use Rattle.load.proofs.handed_up.Reads as handed-up

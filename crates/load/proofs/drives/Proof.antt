@@ -1,5 +1,5 @@
 -- `load::drives` meets its contract: an arm for the lowest entry of a wire and one for each next, which Wire.antt tells apart by the table.
-use mathlib.Core.Path.{_≡_, sym, _∙_}
+use mathlib.Core.Path.{sym}
 use native.Mathlib.Omega.{arith}
 use borrow.Author.Needs.{needs}
 use Rattle.load.proofs.Wire.{load-fits, wire-within, offset-most, drives-lowest, drives-next, before-lower}

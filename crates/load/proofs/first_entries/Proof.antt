@@ -1,13 +1,11 @@
 -- `load::first_entries` meets its contract. The invariant is First.antt's.
-use Prim.Native.Nat.{ℕ, _≤_, _<_, _-_, _+_}
+use Prim.Native.Nat.{_-_, _+_}
 use mathlib.Core.Logic.{⊎-elim}
 use native.Mathlib.Omega.{arith}
 use lib.ListN.{length}
 use Rattle.load.proofs.First.{Filling, filling-none, filling-passed, filling-more, filling-all}
 use Rattle.load.proofs.first_entries.Statement.{statement}
 use Rattle.load.proofs.first_entries.Tie as tie
-use Rattle.load.proofs.first_entries.Reads as reads
-use Rattle.load.proofs.first_entries.Lts as lts
 
 abbrev Inv-loop : tie.InvT-loop
 Inv-loop wires places first₀ i₀ k₀ first i k = Filling wires places first₀ first i k

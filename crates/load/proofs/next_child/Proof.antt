@@ -1,5 +1,5 @@
 -- `load::next_child` meets its contract. The invariant: none of the nodes past `after` and before j is a child.
-use Prim.Native.Nat.{ℕ, _≤_, _<_, _-_}
+use Prim.Native.Nat.{_≤_, _<_, _-_}
 use native.Mathlib.Omega.{arith}
 use native.Mathlib.Decide.{ℕ-discrete}
 use lib.ListN.{length}
