@@ -112,7 +112,10 @@ module _ (τ : Cell) {n : Net} (sound : SoundNet n) {sense₀ left₀ sense left
 
 pub way-end : (τ : Cell) → τ.cu ≡ τ.cb + τ.D → 1 ≤ τ.D → {n : Net} {sense₀ left₀ sense left below spaced topped : List ℕ} {i : ℕ} → Way τ n sense₀ left₀ sense left below spaced topped i → places n ≤ i → getD sense₀ 0 0 ≤ 1
     → Walked τ n (getD sense₀ 0 0) (getD left₀ 0 0) below spaced topped
-way-end τ eq pos {n} {sense₀} {left₀} {sense} {left} {below} {spaced} {topped} {i} w h l N x y cl b =
+way-end τ eq pos {n} {sense₀} {left₀} {sense} {left} {below} {spaced} {topped} {i} w h l =
     let g = w .going in
-    finish τ eq pos n (record { offs = offsOf τ n below spaced topped; cnt = g .cnt; top = g .top; n = g .nn; b = g .bb }) (λ v. getD sense₀ v 0) (λ v. getD left₀ v 0) (getD sense₀ 0 0) (getD left₀ 0 0) N x y l refl refl cl b
-    (going-end τ n (λ v. getD sense₀ v 0) (λ v. getD left₀ v 0) (λ v. getD sense v 0) (λ v. getD left v 0) (offsOf τ n below spaced topped) i h g)
+    record {
+      settles = λ N x y cl b.
+          finish τ eq pos n (record { offs = offsOf τ n below spaced topped; cnt = g .cnt; top = g .top; n = g .nn; b = g .bb }) (λ v. getD sense₀ v 0) (λ v. getD left₀ v 0) (getD sense₀ 0 0) (getD left₀ 0 0) N x y l refl refl cl b
+          (going-end τ n (λ v. getD sense₀ v 0) (λ v. getD left₀ v 0) (λ v. getD sense v 0) (λ v. getD left v 0) (offsOf τ n below spaced topped) i h g);
+    }

@@ -57,7 +57,6 @@ abbrev pub offsOf : Cell → Net → List ℕ → List ℕ → List ℕ → ℕ 
 offsOf τ n below spaced topped i = offsets τ (wire n i) (getD below i 0) (getD spaced i 0) (getD topped i 0)
 
 -- they settle the tree from the source's polarity p with its surplus e
-abbrev pub Walked : Cell → Net → ℕ → ℕ → List ℕ → List ℕ → List ℕ → Type 0
-Walked τ n p e below spaced topped =
-    (N h h₁ : ℕ) → close τ (2 * width (tree n)) (acc τ (tree n) p) ≡ has N h h₁ → Budgeted (acc τ (tree n) p) e N h
-    → Settled τ p (tree n) (planOf (offsOf τ n below spaced topped) (tree n)) × (count (tree n) (planOf (offsOf τ n below spaced topped) (tree n)) ≤ N)
+pub record Walked (τ : Cell) (n : Net) (p e : ℕ) (below spaced topped : List ℕ) : Type 0 where
+  pub settles : (N h h₁ : ℕ) → close τ (2 * width (tree n)) (acc τ (tree n) p) ≡ has N h h₁ → Budgeted (acc τ (tree n) p) e N h
+      → Settled τ p (tree n) (planOf (offsOf τ n below spaced topped) (tree n)) × (count (tree n) (planOf (offsOf τ n below spaced topped) (tree n)) ≤ N)

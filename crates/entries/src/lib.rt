@@ -1,0 +1,94 @@
+// Entries written into the two lent columns, wire after wire: each wire's repeaters as far apart as they may be, then those at its upper end.
+use states::Cell;
+ghost use mathlib.Core.Path.{_≡_};
+ghost use Prim.Native.Nat.{_+_, _≤_, _<_};
+ghost use lib.ListN.{length, getD, replicate};
+ghost use lib.Seq.{sets};
+ghost use Rattle.net.specs.Net.{netAt};
+ghost use Rattle.net.specs.Sound.{SoundNet};
+ghost use Rattle.frontier.specs.Placed.{placed};
+ghost use Rattle.states.specs.States.{modelOf, limitsOf, CellOk};
+ghost use Rattle.cuts.specs.Offsets.{steps, offsets};
+ghost use Rattle.walk.specs.Walk.{offsOf};
+ghost use Rattle.entries.specs.Columns.{wireColumn, offsetColumn};
+
+// r entries of wire i from `at` on, the first at the offset o and each a span further, up to the wire's size w.
+pub fn write_spaced(
+    wires: &mut [u16],
+    offsets: &mut [u32],
+    at: usize,
+    i: u16,
+    w: u64,
+    o: u64,
+    span: u64,
+    r: usize,
+)
+    requires { ⌜ (at + r ≤ length (now wires)) × (at + r ≤ length (now offsets)) ⌝ }
+    requires { ⌜ (o ≤ w) × (w ≤ 10000000) × (span ≤ 1000000) ⌝ }
+    ensures { λ x. ⌜ (now (wires .exit) ≡ sets (now (wires .entry)) at (replicate r i)) × (now (offsets .exit) ≡ sets (now (offsets .entry)) at (steps w span o r)) ⌝ }
+{
+    let mut x = o;
+    let mut j: usize = 0;
+    while j < r {
+        let k = at + j;
+        wires[k] = i;
+        offsets[k] = x as u32;
+        x = states::least(w, x + span);
+        j += 1;
+    }
+}
+
+// The entries of wire i, of size w: r by spacing over the load h, and k at its upper end. Answers the place after them.
+pub fn write_wire(
+    c: Cell,
+    wires: &mut [u16],
+    offsets: &mut [u32],
+    at: usize,
+    i: usize,
+    w: u64,
+    h: u64,
+    r: usize,
+    k: usize,
+) -> usize
+    requires { ⌜ CellOk c × (i < 1025) × (w ≤ 10000000) ⌝ }
+    requires { ⌜ (at + (r + k) ≤ length (now wires)) × (at + (r + k) ≤ length (now offsets)) ⌝ }
+    ensures { λ x. ⌜ (x ≡ at + (r + k)) × (now (wires .exit) ≡ sets (now (wires .entry)) at (replicate (r + k) i)) × (now (offsets .exit) ≡ sets (now (offsets .entry)) at (Rattle.cuts.specs.Offsets.offsets (modelOf c) w h r k)) ⌝ }
+{
+    let v = i as u16;
+    let o = states::least(w, states::less(c.limit, h));
+    write_spaced(wires, offsets, at, v, w, o, c.span, r);
+    let next = at + r;
+    write_spaced(wires, offsets, next, v, w, w, 0, k);
+    next + k
+}
+
+// The entries of all wires.
+pub fn write_all(
+    c: Cell,
+    parent: &[u16],
+    wire: &[u32],
+    kind: &[u8],
+    pin: &[u32],
+    polarity: &[u8],
+    below: &[u64; 1025],
+    spaced: &[u64; 1025],
+    topped: &[u64; 1025],
+    wires: &mut [u16],
+    offsets: &mut [u32],
+)
+    requires { ⌜ CellOk c × SoundNet (netAt (limitsOf c) parent wire kind pin polarity) × (length (now below) ≡ 1025) × (length (now spaced) ≡ 1025) × (length (now topped) ≡ 1025) ⌝ }
+    requires { ⌜ length (placed (netAt (limitsOf c) parent wire kind pin polarity) (offsOf (modelOf c) (netAt (limitsOf c) parent wire kind pin polarity) (now below) (now spaced) (now topped))) ≤ length (now wires) ⌝ }
+    requires { ⌜ length (placed (netAt (limitsOf c) parent wire kind pin polarity) (offsOf (modelOf c) (netAt (limitsOf c) parent wire kind pin polarity) (now below) (now spaced) (now topped))) ≤ length (now offsets) ⌝ }
+    ensures { λ r. ⌜ now (wires .exit) ≡ sets (now (wires .entry)) 0 (wireColumn (placed (netAt (limitsOf c) (parent .entry) (wire .entry) (kind .entry) (pin .entry) (polarity .entry)) (offsOf (modelOf c) (netAt (limitsOf c) (parent .entry) (wire .entry) (kind .entry) (pin .entry) (polarity .entry)) (now (below .entry)) (now (spaced .entry)) (now (topped .entry))))) ⌝ }
+    ensures { λ r. ⌜ now (offsets .exit) ≡ sets (now (offsets .entry)) 0 (offsetColumn (placed (netAt (limitsOf c) (parent .entry) (wire .entry) (kind .entry) (pin .entry) (polarity .entry)) (offsOf (modelOf c) (netAt (limitsOf c) (parent .entry) (wire .entry) (kind .entry) (pin .entry) (polarity .entry)) (now (below .entry)) (now (spaced .entry)) (now (topped .entry))))) ⌝ }
+{
+    let mut i: usize = 1;
+    let mut at: usize = 0;
+    while i < wire.len() {
+        let h = below[i];
+        let r = spaced[i] as usize;
+        let k = topped[i] as usize;
+        at = write_wire(c, wires, offsets, at, i, rows::wide(wire[i]), h, r, k);
+        i += 1;
+    }
+}
