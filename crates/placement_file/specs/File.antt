@@ -52,10 +52,11 @@ entryInRange e = both (ltb 0 (e .wire)) (both (leb (e .wire) mostNodes) (leb (e 
 
 -- ---- a file: "one 11, that many 12, then 7F"
 
--- entries: 0 to 4,096
+-- the number of entries that the front of a file says
 unfoldable pub owed : List ℕ → ℕ
 owed s = countIn (fieldAt s 0)
 
+-- 0 to 4,096
 unfoldable pub countJudged : List ℕ → Judged
 countJudged s = thenJudge (due 17 (fieldAt s 0)) (unless (leb (owed s) mostEntries) (OutOfRange 0))
 
@@ -80,13 +81,13 @@ bodyJudged s n = thenJudge (judgeEach (entryJudged s) n 0) (endJudged s (startOf
 unfoldable pub fileJudged : List ℕ → Judged
 fileJudged s = thenJudge (countJudged s) (bodyJudged s (owed s))
 
--- the two columns of a list, and k entries, from entry i on
 abbrev pub wire : Entry → ℕ
 wire e = e .wire
 
 abbrev pub offset : Entry → ℕ
 offset e = e .offset
 
+-- k entries, from entry i on
 unfoldable pub listed : (ℕ → Entry) → ℕ → ℕ → List Entry
 listed f zero i = []
 listed f (suc k) i = f i ∷ listed f k (suc i)
@@ -104,10 +105,11 @@ outcome (Unsound r) es = refused r
 unfoldable pub placementOf : List ℕ → Outcome
 placementOf s = outcome (fileJudged s) (listed (entryAt s) (owed s) 0)
 
--- entry i of the columns; 3 at an entry
+-- entry i of the columns
 abbrev pub columnEntry : List ℕ → List ℕ → ℕ → Entry
 columnEntry vs os i = record { wire = getD vs i 0; offset = getD os i 0 }
 
+-- "3: value outside its range", at an entry
 unfoldable pub rangeJudged : List ℕ → List ℕ → ℕ → Judged
 rangeJudged vs os i = unless (entryInRange (columnEntry vs os i)) (OutOfRange i)
 
@@ -148,6 +150,7 @@ readCount (Refused r) = placeOf r
 
 -- ---- the writer
 
+-- the entries and the end, one field after the other; before them the count
 unfoldable pub entriesBytes : List Entry → List ℕ
 entriesBytes [] = bytesOf End
 entriesBytes (e ∷ es) = bytesOf (AnEntry e) ++ entriesBytes es

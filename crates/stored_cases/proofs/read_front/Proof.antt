@@ -1,0 +1,17 @@
+-- `read_front` is safe: the part that it lends lies in the room.
+use mathlib.Core.Path.{sym}
+use lib.Seq.{length-take-le}
+use borrow.Author.Needs.{needs}
+use Rattle.stored_cases.proofs.read_front.Statement.{statement}
+use Rattle.stored_cases.proofs.read_front.Tie as tie
+
+pub read-front-spec : {M : Type 1} → statement M
+read-front-spec =
+    tie.close
+    (tie.spec
+    (λ c. search needs)
+    (λ c. search needs)
+    (λ c. sym (length-take-le _ _ (c .before .if1 .left)))
+    (λ c κs. search needs)
+    (λ c. search needs)
+    (λ c. search needs))
