@@ -6,3 +6,4 @@ pub mod Offsets
 pub mod Scan
 pub mod Wire
 pub mod Determined
+pub mod Search

@@ -1,19 +1,32 @@
 -- What the search for a node's next child answers.
-use Prim.Native.Nat.{ℕ, _≤_, _<_}
+use Prim.Native.Nat.{ℕ, suc, _≤_, _<_}
 use mathlib.Core.Path.{_≡_}
 use mathlib.Core.List.{List}
 use lib.ListN.{length, getD}
+use Rattle.net.specs.Figures.{mostPlaces}
 use Rattle.load.specs.declared.Found.{Found}
 use Rattle.load.specs.declared.Found.the-variants.{At, Nothing}
 
--- "A parent's number is lower than its child's", and the search goes on from a node of the net
-pub record Searched (parents : List ℕ) (after : ℕ) : Type 0 where
+-- "A parent's number is lower than its child's", and the search for a child of v goes on from a node of the net
+pub record Searched (parents : List ℕ) (v after : ℕ) : Type 0 where
+  pub few : length parents ≤ mostPlaces
+  pub node : v < length parents
   pub within : after < length parents
   pub lower : (i : ℕ) → 1 ≤ i → i < length parents → getD parents i 0 < i
 
--- none of the nodes past `after` and before j has v for its parent
+-- none of the nodes from i up to j has v for its parent
+abbrev pub NoneFrom : List ℕ → ℕ → ℕ → ℕ → Type 0
+NoneFrom parents v i j = (k : ℕ) → i ≤ k → k < j → getD parents k 0 ≡ v → ⊥
+
+-- and none of those past `after` and before j
 abbrev pub NoneBetween : List ℕ → ℕ → ℕ → ℕ → Type 0
-NoneBetween parents v after j = (k : ℕ) → after < k → k < j → getD parents k 0 ≡ v → ⊥
+NoneBetween parents v after j = NoneFrom parents v (suc after) j
+
+-- the search has come to j
+pub record Passed (parents : List ℕ) (v after j : ℕ) : Type 0 where
+  pub later : after < j
+  pub within : j ≤ length parents
+  pub none : NoneBetween parents v after j
 
 -- j is the lowest-numbered child of v past `after`
 pub record Next (parents : List ℕ) (v after j : ℕ) : Type 0 where

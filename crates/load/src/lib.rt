@@ -1,12 +1,13 @@
 // What lies below a node, what a wire hands up, and what each entry drives, over lent columns.
 use net::Limits;
 ghost use mathlib.Core.Path.{_≡_};
-ghost use Prim.Native.Nat.{suc, _≤_};
+ghost use Prim.Native.Nat.{suc, _≤_, _<_};
+ghost use mathlib.Core.Bool.{false};
 ghost use lib.ListN.{length, getD};
 ghost use Rattle.net.specs.Figures.{mostPlaces};
 ghost use Rattle.net.specs.Net.{netAt};
 ghost use Rattle.net.specs.Load.{loadBelow, handedUp, driven};
-ghost use Rattle.load.specs.Next.{Searched, NextIs};
+ghost use Rattle.load.specs.Next.{Searched, NoneFrom, Passed, NextIs};
 ghost use Rattle.load.specs.First.{Rising, Filled};
 ghost use Rattle.load.specs.Asks.{offsetsAt, Asks, AsksEntry};
 
@@ -19,15 +20,50 @@ pub enum Found {
     Nothing,
 }
 
-// The lowest-numbered child of a node past another.
-pub fn next_child(parent: &[u16], node: usize, after: usize) -> Found
-    requires { ⌜ Searched (now parent) after ⌝ }
-    ensures { λ r. ⌜ NextIs (now (parent .entry)) node after r ⌝ }
+// How many nodes the search for a child looks at in one go.
+const RUN: usize = 64;
+
+// Whether one of the nodes from `from` up to `to` is a child. The loop goes to its end, so that many are compared at once.
+fn any_child(parent: &[u16], node: u16, from: usize, to: usize) -> bool
+    requires { ⌜ to ≤ length (now parent) ⌝ }
+    ensures { λ r. ⌜ (r ≡ false → NoneFrom (now (parent .entry)) node from to) ⌝ }
+{
+    let mut found = false;
+    let mut j = from;
+    while j < to {
+        if parent[j] == node {
+            found = true;
+        }
+        j += 1;
+    }
+    found
+}
+
+// Passes over whole runs of nodes past `after` that hold no child.
+fn pass_runs(parent: &[u16], node: u16, after: usize) -> usize
+    requires { ⌜ after < length (now parent) ⌝ }
+    ensures { λ r. ⌜ Passed (now (parent .entry)) node after r ⌝ }
 {
     let mut j = after + 1;
+    while RUN <= parent.len() - j {
+        let end = j + RUN;
+        if any_child(parent, node, j, end) {
+            return j;
+        }
+        j = end;
+    }
+    j
+}
+
+// The lowest-numbered child of a node past another.
+pub fn next_child(parent: &[u16], node: usize, after: usize) -> Found
+    requires { ⌜ Searched (now parent) node after ⌝ }
+    ensures { λ r. ⌜ NextIs (now (parent .entry)) node after r ⌝ }
+{
+    let wanted = node as u16;
+    let mut j = pass_runs(parent, wanted, after);
     while j < parent.len() {
-        let above = parent[j] as usize;
-        if above == node {
+        if parent[j] == wanted {
             return Found::At(j);
         }
         j += 1;

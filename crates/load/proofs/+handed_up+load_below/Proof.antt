@@ -136,7 +136,7 @@ module _ (t : ℕ) where
   l-loop-holds c = let s = start-l (c .before) in scan-start _ (s .pre .1 .within) (c .if1 .left)
 
   l-next-child-requires : L.Need-next-child-requires (calls-l t) (at-l t) load-below.Post Inv-loop μ-loop
-  l-next-child-requires c κs = let s = start-l (c .before .before) in record { within = c .loop .inv .within; lower = s .pre .1 .placed .sound .lower }
+  l-next-child-requires c κs = let s = start-l (c .before .before) in record { few = s .pre .1 .placed .sound .few; node = s .pre .1 .within; within = c .loop .inv .within; lower = s .pre .1 .placed .sound .lower }
 
   l-enum-known-next : L.Need-enum-known-next (calls-l t) (at-l t) load-below.Post Inv-loop μ-loop
   l-enum-known-next c = omega arith
