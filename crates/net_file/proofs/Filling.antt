@@ -1,20 +1,18 @@
--- The filler's loop: what the file still has from `at` on, laid over the columns as they are, is what the columns are to hold. One equation says it
--- of all five, since they are laid over together.
+-- Columns that are filled node by node, from a file and from other columns: what is left, laid over the columns as they are, is what they are to hold.
+-- One equation says it of all five, since they are laid over together.
 use Prim.Native.Nat.{ℕ, suc, _+_, _-_, _<_, _≤_}
 use native.Mathlib.Omega.{arith}
 use native.Mathlib.Numerals.{add-one}
 use mathlib.Core.Path.{_≡_, refl, sym, ap, _∙_}
 use mathlib.Core.List.{List, [], _∷_}
-use lib.ListN.{length, length-set}
-use types.Run.{OneOf, miss}
-use denote.Enum.Declared.{tagOf}
+use lib.ListN.{length, length-set, replicate, length-replicate}
 use Rattle.net.specs.declared.Node.{Node}
 use Rattle.net.specs.Net.{Net}
-use Rattle.net.specs.Counted.{unlimited}
+use Rattle.net.specs.Figures.{mostPlaces}
+use Rattle.net.specs.Counted.{unlimited, Within}
 use Rattle.net_file.specs.declared.Taken.{Taken}
-use Rattle.net_file.specs.declared.Taken.the-variants.{Node as OneNode, End as Last, Refused as Neither}
-use Rattle.net_file.specs.NetFile.{takenAt, Fields, follow, fieldsFrom, nodesOf, columnsOf, source, laidOver}
-use Rattle.net_file.proofs.Taken.{the-type}
+use Rattle.net_file.specs.declared.Taken.the-variants.{Node as OneNode, End as Last}
+use Rattle.net_file.specs.NetFile.{takenAt, follow, fieldsFrom, nodesOf, columnsOf, laidOver, blank, listed}
 
 -- five columns as long as five others
 pub record AsLong (a b : Net) : Type 0 where
@@ -23,6 +21,27 @@ pub record AsLong (a b : Net) : Type 0 where
   pub kinds : length (a .kinds) ≡ length (b .kinds)
   pub pins : length (a .pins) ≡ length (b .pins)
   pub polarities : length (a .polarities) ≡ length (b .polarities)
+
+-- a node laid over them changes no length
+laid-long : (now : Net) {more lent : Net} (i : ℕ) (d : Node) → more ≡ laidOver now i (columnsOf unlimited (d ∷ [])) → AsLong now lent → AsLong more lent
+laid-long now i d q a = record {
+  parents = rw (q, length-set) (a .parents);
+  wires = rw (q, length-set) (a .wires);
+  kinds = rw (q, length-set) (a .kinds);
+  pins = rw (q, length-set) (a .pins);
+  polarities = rw (q, length-set) (a .polarities);
+}
+
+-- the reader's own columns have 1,025 places
+pub own-places : {now own : Net} → own ≡ blank → AsLong now own → (i : ℕ) → i < mostPlaces → Within i (now .parents) (now .wires) (now .kinds) (now .pins) (now .polarities)
+own-places {now} {own} e a i h =
+    let r : length {A = ℕ} (replicate mostPlaces 0) ≡ mostPlaces = length-replicate {A = ℕ} mostPlaces 0 in
+    let p : length (own .parents) ≡ mostPlaces = ap (λ (n : Net). length (n .parents)) e ∙ r in
+    let w : length (own .wires) ≡ mostPlaces = ap (λ (n : Net). length (n .wires)) e ∙ r in
+    let k : length (own .kinds) ≡ mostPlaces = ap (λ (n : Net). length (n .kinds)) e ∙ r in
+    let c : length (own .pins) ≡ mostPlaces = ap (λ (n : Net). length (n .pins)) e ∙ r in
+    let q : length (own .polarities) ≡ mostPlaces = ap (λ (n : Net). length (n .polarities)) e ∙ r in
+    record { parents = omega arith; wires = omega arith; kinds = omega arith; pins = omega arith; polarities = omega arith }
 
 -- the nodes from a place on, laid over some columns from place i on
 abbrev pub laidFrom : Net → ℕ → ℕ → List ℕ → ℕ → Net
@@ -50,30 +69,34 @@ module _ (s : List ℕ) (places : ℕ) (lent : Net) where
     unfolding nodesOf
     fill-next h {d} {next} e q = record {
       some = omega arith;
-      long = record {
-        parents = rw (q, length-set) (f .long .parents);
-        wires = rw (q, length-set) (f .long .wires);
-        kinds = rw (q, length-set) (f .long .kinds);
-        pins = rw (q, length-set) (f .long .pins);
-        polarities = rw (q, length-set) (f .long .polarities);
-      };
+      long = laid-long now i d q (f .long);
       rest = rw (add-one, q) (step h (OneNode d next) e);
     }
 
-    pub fill-end : places ≤ i → now ≡ laidFrom lent 1 (places - 1) s 12
-    unfolding fieldsFrom nodesOf
-    fill-end h = let z : places - i ≡ 0 = omega arith in sym (f .rest ∙ ap (λ (k : ℕ). laidFrom now i k s at) z)
-
-    none : (t : Taken) → OneOf (1 ∷ 2 ∷ []) (tagOf the-type t) → (more : ℕ → Fields) → nodesOf (follow at t more) ≡ []
+    -- the end: all nodes are laid
+    pub fill-last : i < places → {next : ℕ} → takenAt s at ≡ Last next → now ≡ laidFrom lent 1 (places - 1) s 12
     unfolding nodesOf
-    none (OneNode d next) k more = absurd (miss (1 ∷ 2 ∷ []) 0 tt k)
-    none (Last next) k more = refl
-    none (Neither r) k more = refl
+    fill-last h {next} e = sym (step h (Last next) e)
 
-    pub fill-stop : i < places → {t : Taken} → t ≡ takenAt s at → OneOf (1 ∷ 2 ∷ []) (tagOf the-type t) → now ≡ laidFrom lent 1 (places - 1) s 12
-    fill-stop h {t} e k = sym (step h t (sym e) ∙ ap (λ (ds : List Node). laidOver now i (columnsOf unlimited ds)) (none t k (fieldsFrom (places - suc i) s)))
+-- ---- a copy of the first n places
+module _ (nodes : ℕ → Node) (n : ℕ) (lent : Net) where
+  pub record Copying (now : Net) (i : ℕ) : Type 0 where
+    pub long : AsLong now lent
+    pub rest : laidOver lent 0 (columnsOf unlimited (listed nodes n 0)) ≡ laidOver now i (columnsOf unlimited (listed nodes (n - i) i))
 
--- with the source before them
-pub filled-all : (s : List ℕ) (places : ℕ) (lent : Net) {first now : Net} → first ≡ laidOver lent 0 (columnsOf unlimited (source ∷ []))
-    → now ≡ laidFrom first 1 (places - 1) s 12 → now ≡ laidOver lent 0 (columnsOf unlimited (source ∷ nodesOf (fieldsFrom (places - 1) s 12)))
-filled-all s places lent e f = f ∙ ap (λ (n : Net). laidFrom n 1 (places - 1) s 12) e
+  pub copy-start : Copying lent 0
+  copy-start = record { long = record { parents = refl; wires = refl; kinds = refl; pins = refl; polarities = refl }; rest = let z : n ≡ n - 0 = omega arith in ap (λ (k : ℕ). laidOver lent 0 (columnsOf unlimited (listed nodes k 0))) z }
+
+  module _ {now : Net} {i : ℕ} (c : Copying now i) where
+    pub copy-next : i < n → {d : Node} → d ≡ nodes i → {more : Net} → more ≡ laidOver now i (columnsOf unlimited (d ∷ [])) → Copying more (i + 1)
+    unfolding listed
+    copy-next h {d} e {more} q =
+        let z : n - i ≡ suc (n - suc i) = omega arith in
+        record {
+          long = laid-long now i d q (c .long);
+          rest = rw (add-one, q, e) (c .rest ∙ ap (λ (k : ℕ). laidOver now i (columnsOf unlimited (listed nodes k i))) z);
+        }
+
+    pub copy-end : n ≤ i → now ≡ laidOver lent 0 (columnsOf unlimited (listed nodes n 0))
+    unfolding listed
+    copy-end h = let z : n - i ≡ 0 = omega arith in sym (c .rest ∙ ap (λ (k : ℕ). laidOver now i (columnsOf unlimited (listed nodes k i))) z)

@@ -1,6 +1,6 @@
 -- The judge of a file: its loop has come to node i at the place `at`. What is left of the fields decides the answer; the two arrays hold
 -- the kinds of the nodes before i and the children that each node has among them.
-use Prim.Native.Nat.{ℕ, suc, _+_, _-_, _<_, _≤_}
+use Prim.Native.Nat.{ℕ, zero, suc, _+_, _-_, _<_, _≤_}
 use native.Mathlib.Omega.{arith}
 use native.Mathlib.Decide.{ℕ-discrete, decLt}
 use native.Mathlib.Numerals.{add-one}
@@ -19,16 +19,16 @@ use Rattle.net.specs.declared.Judged.{Judged}
 use Rattle.net.specs.declared.Judged.the-variants.{Sound, Refused as Unsound}
 use Rattle.net.specs.Figures.{mostNodes, mostPlaces}
 use Rattle.net.specs.Net.{Net, places, parent, kind, node}
-use Rattle.net.specs.Judge.{unless, thenJudge, nodeInRange, parentFits, admitted, nodeJudged, hasChild, children, childedBy, childed}
+use Rattle.net.specs.Judge.{unless, thenJudge, judgeEach, nodeInRange, parentFits, admitted, nodeJudged, hasChild, children, childedBy, childed}
 use Rattle.net.specs.Counted.{Tallied}
-use Rattle.net.proofs.Tests.{unless-met, then-met}
-use Rattle.net.proofs.Each.{each-same}
-use Rattle.net.proofs.SoundSays.{Fits, parent-fits}
+use Rattle.net.proofs.Tests.{never, unless-met, then-met}
+use Rattle.net.proofs.Each.{each-same, each-met}
+use Rattle.net.proofs.SoundSays.{Fits, parent-fits, NodeSound, node-sound}
 use Rattle.net.proofs.Judging.{tallied-start, tallied-after}
 use Rattle.net_file.specs.declared.Taken.{Taken}
 use Rattle.net_file.specs.declared.Taken.the-variants.{Node as OneNode, End as Last, Refused as Neither}
 use Rattle.net_file.specs.declared.NetRead.the-variants.{Read, Refused as NotRead}
-use Rattle.net_file.specs.NetFile.{takenAt, follow, fieldsFrom, nodesOf, source, fieldsJudged, netWith, fieldsOf, netFrom, told}
+use Rattle.net_file.specs.NetFile.{takenAt, Fields, nodeAt, endAt, wrong, follow, fieldsFrom, nodesOf, source, fieldsJudged, netWith, fieldsOf, netFrom, tells}
 use Rattle.net_file.proofs.Nodes.{node-is, places-are, Heads, heads, none-left}
 
 -- ---- one node
@@ -70,8 +70,8 @@ module _ (l : Limits) (s : List ℕ) where
     pub long : length kinds ≡ mostPlaces
     pub kinds-are : (j : ℕ) → j < i → getD kinds j 0 ≡ kind N j
 
-  pub start : Judging (replicate mostPlaces 0) (replicate mostPlaces 0) 12 1
-  start = record {
+  begin : Judging (replicate mostPlaces 0) (replicate mostPlaces 0) 12 1
+  begin = record {
     k = mostNodes;
     fuel = refl;
     some = omega arith;
@@ -83,11 +83,14 @@ module _ (l : Limits) (s : List ℕ) where
     kinds-are = λ j h. let z : j ≡ 0 = omega arith in rw z;
   }
 
-  told-unsound : (r : Refusal) → Whole ≡ Unsound r → NotRead r ≡ told (netFrom s l)
+  pub start : {kinds : List ℕ} → kinds ≡ replicate mostPlaces 0 → Judging kinds (replicate mostPlaces 0) 12 1
+  start e = rw e begin
+
+  told-unsound : (r : Refusal) → Whole ≡ Unsound r → NotRead r ≡ tells (netFrom s l)
   unfolding netFrom
   told-unsound r e = rw e
 
-  told-sound : (n : ℕ) → Whole ≡ Sound → n ≡ length All → Read l n ≡ told (netFrom s l)
+  told-sound : (n : ℕ) → Whole ≡ Sound → n ≡ length All → Read l n ≡ tells (netFrom s l)
   unfolding netFrom
   told-sound n e h = rw (e, places-are l All, h)
 
@@ -100,7 +103,7 @@ module _ (l : Limits) (s : List ℕ) where
     )
 
     -- what is neither a node nor the end
-    pub stop-wrong : (r : Refusal) → takenAt s at ≡ Neither r → NotRead r ≡ told (netFrom s l)
+    pub stop-wrong : (r : Refusal) → takenAt s at ≡ Neither r → NotRead r ≡ tells (netFrom s l)
     unfolding fieldsJudged
     stop-wrong r e = told-unsound r (step (Neither r) e .0)
 
@@ -120,10 +123,10 @@ module _ (l : Limits) (s : List ℕ) where
           ∙ ap (λ (x : ℕ). childedBy (kind N) (children N (x - 1)) x) (sym m) in
           step (Last next) e .0 ∙ sym (is ∙ rw same)
 
-      pub stop-end : (x : Refusal) → r ≡ Unsound x → NotRead x ≡ told (netFrom s l)
+      pub stop-end : (x : Refusal) → r ≡ Unsound x → NotRead x ≡ tells (netFrom s l)
       stop-end x h = told-unsound x (whole-is ∙ h)
 
-      pub ends : r ≡ Sound → Read l i ≡ told (netFrom s l)
+      pub ends : r ≡ Sound → Read l i ≡ tells (netFrom s l)
       ends h = told-sound i (whole-is ∙ h) all-seen
 
     -- a node
@@ -147,7 +150,7 @@ module _ (l : Limits) (s : List ℕ) where
       unfolding fieldsJudged
       whole-here = step (OneNode d next) e .0 ∙ rw (← judged-here)
 
-      pub stop-node : (x : Refusal) → r ≡ Unsound x → NotRead x ≡ told (netFrom s l)
+      pub stop-node : (x : Refusal) → r ≡ Unsound x → NotRead x ≡ tells (netFrom s l)
       stop-node x h = told-unsound x (whole-here ∙ rw h)
 
       module _ (sound : r ≡ Sound) where
@@ -160,8 +163,8 @@ module _ (l : Limits) (s : List ℕ) where
           | no q ↦ getD-set-other kinds i v (d .kind) 0 q ∙ j .kinds-are v (omega arith)
         ]
 
-        pub next-node : {more : List ℕ} → more ≡ set counts (d .parent) (getD counts (d .parent) 0 + 1) → Judging (set kinds i (d .kind)) more next (i + 1)
-        next-node q =
+        pub next-node : {kinds′ more : List ℕ} → kinds′ ≡ set kinds i (d .kind) → more ≡ set counts (d .parent) (getD counts (d .parent) 0 + 1) → Judging kinds′ more next (i + 1)
+        next-node k q =
             let f : suc (j .k - 1) ≡ j .k = omega (arith, j .fuel, fits .few) in
             let ok : Sound ≡ admitted l d i (kind N (d .parent)) (getD counts (d .parent) 0) i = sym (sym (admits i) ∙ admitted-anywhere l d i (getD kinds (d .parent) 0) (getD counts (d .parent) 0) at i (sym is ∙ sound)) in
             record {
@@ -172,6 +175,24 @@ module _ (l : Limits) (s : List ℕ) where
               left = rw (f, add-one) (head .others);
               rest = rw (f, add-one) (whole-here ∙ rw sound);
               tallied = tallied-after (j .tallied) node-here ok refl (j .some) (omega (arith, fits .few)) q;
-              long = simp length-set (j .long);
-              kinds-are = kinds-next;
+              long = rw (k, length-set) (j .long);
+              kinds-are = rw k kinds-next;
             }
+
+-- ---- judged field by field, and as columns
+
+pub columns-judged : (n : Net) (size i : ℕ) (fields : Fields) → fieldsJudged n size i fields ≡ Sound → (judgeEach (λ j. nodeJudged n j j) (length (nodesOf fields)) i ≡ Sound) × (childed n ≡ Sound)
+unfolding fieldsJudged nodesOf judgeEach
+columns-judged n size i (nodeAt at d more) e =
+    let (here, rest) = then-met (nodeJudged n i at) _ e in
+    let (nodes, c) = columns-judged n size (suc i) more rest in
+    let ok : nodeJudged n i i ≡ Sound = admitted-anywhere (n .limits) (node n i) i (kind n (parent n i)) (children n (i - 1) (parent n i)) at i here in
+    (rw ok nodes, c)
+columns-judged n size i (endAt next) e = (refl, then-met (unless (leb size next) (BytesAfterEnd next)) (childed n) e .1)
+columns-judged n size i (wrong r) e = never (cc)
+
+pub few-nodes : (n : Net) (m : ℕ) → judgeEach (λ j. nodeJudged n j j) m 1 ≡ Sound → m ≤ mostNodes
+few-nodes n zero e = omega arith
+few-nodes n (suc m) e =
+    let h : NodeSound n (suc m) = node-sound n (suc m) (suc m) (each-met (λ j. nodeJudged n j j) (suc m) 1 e (suc m) (omega arith) (omega arith)) in
+    h .fits .few

@@ -17,10 +17,8 @@ use Rattle.net.specs.declared.Judged.the-variants.{Sound}
 use Rattle.net.specs.Figures.{mostNodes, mostPlaces}
 use Rattle.net.specs.Choose.{pick}
 use Rattle.net.specs.Net.{Net, places, parent, kind, node}
-use Rattle.net.specs.Judge.{unless, judgeEach, limitsInRange, columnsFit, sourceClear, children, nodeJudged, nodesJudged, childed, judged}
+use Rattle.net.specs.Judge.{unless, limitsInRange, columnsFit, sourceClear, nodeJudged, nodesJudged, judged}
 use Rattle.net.proofs.Tests.{never, unless-met, then-met}
-use Rattle.net.proofs.Each.{each-met}
-use Rattle.net.proofs.SoundSays.{NodeSound, node-sound}
 use Rattle.field.specs.declared.Value.{Value}
 use Rattle.field.specs.declared.Value.the-variants.{Limits as LimitsField, Branch, Sink, Count, Entry, End}
 use Rattle.field.specs.declared.Field.{Field}
@@ -35,9 +33,9 @@ use Rattle.net_file.specs.declared.Taken.the-variants.{Node as OneNode, 
 use Rattle.net_file.specs.declared.NetRead.the-variants.{Read, Refused as NotRead}
 use Rattle.net_file.specs.declared.NetWrote.{NetWrote}
 use Rattle.net_file.specs.declared.NetWrote.the-variants.{Written}
-use Rattle.net_file.specs.NetFile.{frontValue, frontOf, takenValue, takenOf, takenAt, Fields, nodeAt, endAt, wrong, follow, fieldsFrom, nodesOf, columnsOf, source, fieldsJudged, Outcome, read, refused, netWith, fieldsOf, netOf, room, laidOver, answered, filled, ReadNet, firstPlaces, fieldOf, bytesFrom, netBytes, written, leftIn, WroteNet}
+use Rattle.net_file.specs.NetFile.{frontValue, frontOf, takenValue, takenOf, takenAt, follow, fieldsFrom, nodesOf, columnsOf, source, fieldsJudged, Outcome, read, refused, netWith, fieldsOf, netOf, room, laidOver, answered, filled, ReadNet, firstPlaces, fieldOf, bytesFrom, netBytes, written, leftIn, WroteNet}
 use Rattle.net_file.proofs.Nodes.{node-is, places-are, Heads, heads}
-use Rattle.net_file.proofs.Judging.{admitted-anywhere}
+use Rattle.net_file.proofs.Judging.{columns-judged, few-nodes}
 use Rattle.net_file.proofs.Reading.{WasRead, was-read}
 
 -- ---- one field
@@ -134,23 +132,7 @@ module _ (s : List ℕ) (by : AreBytes s) where
             end-bytes at next q (leb-true (length s) next (unless-met _ (BytesAfterEnd next) (then-met (unless (leb (length s) next) (BytesAfterEnd next)) _ j .0)))
         on (Neither r) q j left later = never (cc)
 
--- ---- judged field by field, and as columns
-
-columns-judged : (n : Net) (size i : ℕ) (fields : Fields) → fieldsJudged n size i fields ≡ Sound → (judgeEach (λ j. nodeJudged n j j) (length (nodesOf fields)) i ≡ Sound) × (childed n ≡ Sound)
-unfolding fieldsJudged nodesOf judgeEach
-columns-judged n size i (nodeAt at d more) e =
-    let (here, rest) = then-met (nodeJudged n i at) _ e in
-    let (nodes, c) = columns-judged n size (suc i) more rest in
-    let ok : nodeJudged n i i ≡ Sound = admitted-anywhere (n .limits) (node n i) i (kind n (parent n i)) (children n (i - 1) (parent n i)) at i here in
-    (rw ok nodes, c)
-columns-judged n size i (endAt next) e = (refl, then-met (unless (leb size next) (BytesAfterEnd next)) (childed n) e .1)
-columns-judged n size i (wrong r) e = never (cc)
-
-few-nodes : (n : Net) (m : ℕ) → judgeEach (λ j. nodeJudged n j j) m 1 ≡ Sound → m ≤ mostNodes
-few-nodes n zero e = omega arith
-few-nodes n (suc m) e =
-    let h : NodeSound n (suc m) = node-sound n (suc m) (suc m) (each-met (λ j. nodeJudged n j j) (suc m) 1 e (suc m) (omega arith) (omega arith)) in
-    h .fits .few
+-- ---- the columns of a list of nodes
 
 columns-fit : (l : Limits) (ds : List Node) → 1 ≤ length ds → length ds ≤ mostPlaces → columnsFit (columnsOf l ds) ≡ true
 columns-fit l ds lo hi = rw (

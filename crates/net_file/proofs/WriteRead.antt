@@ -33,7 +33,7 @@ use Rattle.net_file.specs.declared.Taken.the-variants.{Node as OneNode, 
 use Rattle.net_file.specs.declared.NetRead.{NetRead}
 use Rattle.net_file.specs.declared.NetRead.the-variants.{Read}
 use Rattle.net_file.specs.declared.NetWrote.the-variants.{Written, Refused as NotWritten}
-use Rattle.net_file.specs.NetFile.{frontOf, takenValue, takenOf, takenAt, follow, fieldsFrom, nodesOf, columnsOf, source, fieldsJudged, read, whenSound, netWith, fieldsOf, netFrom, fromFront, netOf, room, laidOver, ReadNet, firstPlaces, fieldOf, bytesFrom, netBytes, written, leftIn, WroteNet}
+use Rattle.net_file.specs.NetFile.{frontOf, takenValue, takenOf, takenAt, follow, fieldsFrom, nodesOf, columnsOf, source, fieldsJudged, read, whenSound, netWith, fieldsOf, netFrom, fromFront, netOf, room, laidOver, ReadNet, listed, firstPlaces, fieldOf, bytesFrom, netBytes, written, leftIn, WroteNet}
 use Rattle.net_file.proofs.Judging.{admitted-anywhere, admitted-fits}
 use Rattle.net_file.proofs.ReadWrite.{front-is}
 
@@ -69,10 +69,6 @@ field-back : (s : List ℕ) (at : ℕ) (v : Value) (rest : List ℕ) → Fitting
 field-back s at v rest h e = ap (fieldIn at) e ∙ read-written at v rest h
 
 -- ---- the nodes of the columns as a list
-
-unfoldable listed : (ℕ → Node) → ℕ → ℕ → List Node
-listed nodes zero i = []
-listed nodes (suc m) i = nodes i ∷ listed nodes m (suc i)
 
 column-of : (nodes : ℕ → Node) (f : Node → ℕ) (col : List ℕ) → ((i : ℕ) → f (nodes i) ≡ getD col i 0) → (m i : ℕ) → i + m ≤ length col → map f (listed nodes m i) ≡ take m (drop i col)
 unfolding listed

@@ -5,11 +5,11 @@ ghost use Prim.Native.Nat.{_+_, _-_, _<_, _≤_, _^_, min};
 ghost use lib.ListN.{length, getD};
 ghost use lib.Dec.{leb};
 ghost use lib.Seq.{sets};
-ghost use Rattle.net.specs.Net.{netAt};
+ghost use Rattle.net.specs.Net.{netAt, node};
 ghost use Rattle.net.specs.Judge.{unless, thenJudge, childedBy};
 ghost use Rattle.net.specs.Counted.{unlimited, Within, Level};
 ghost use Rattle.field.specs.Format.{fieldAt, bytesOf};
-ghost use Rattle.net_file.specs.NetFile.{cutAt, frontValue, frontOf, nodeDue, takenValue, takenAt, netFrom, netOf, told, fieldsFrom, nodesOf, columnsOf, source, laidOver, ReadNet, fieldOf, netBytes, WroteNet};
+ghost use Rattle.net_file.specs.NetFile.{cutAt, frontValue, frontOf, nodeDue, takenValue, takenAt, netFrom, netOf, columnsOf, laidOver, blank, listed, Room, JudgedFile, ReadNet, fieldOf, netBytes, WroteNet};
 use field::Field;
 use field::FieldRead;
 use field::Value;
@@ -154,55 +154,6 @@ fn finish(s: &[u8], next: usize, kinds: &[u8], counts: &[u8; 1025], n: usize) ->
     net::all_childed(kinds, counts, n)
 }
 
-// The fields after the limits, judged one by one over the kinds of the nodes so far and the children that each has.
-fn judge_fields(s: &[u8], l: Limits) -> NetRead
-    ensures { λ r. ⌜ r ≡ told (netFrom (now (s .entry)) l) ⌝ }
-{
-    let mut kinds = [0u8; 1025];
-    let mut counts = [0u8; 1025];
-    let mut at: usize = 12;
-    let mut i: usize = 1;
-    loop {
-        let taken = take_node(s, at);
-        match taken {
-            Taken::Node(d, next) => {
-                let here = net::admit(l, d, i, &kinds, &counts, at);
-                if let Judged::Refused(r) = here {
-                    return NetRead::Refused(r);
-                }
-                net::tally(&mut counts, d.parent as usize);
-                kinds[i] = d.kind;
-                i += 1;
-                at = next;
-            }
-            Taken::End(next) => {
-                let end = finish(s, next, &kinds, &counts, i);
-                if let Judged::Refused(r) = end {
-                    return NetRead::Refused(r);
-                }
-                return NetRead::Read {
-                    limits: l,
-                    places: i,
-                };
-            }
-            Taken::Refused(r) => {
-                return NetRead::Refused(r);
-            }
-        }
-    }
-}
-
-// A whole file, judged.
-fn judge_file(s: &[u8]) -> NetRead
-    ensures { λ r. ⌜ r ≡ told (netOf (now (s .entry))) ⌝ }
-{
-    let front = read_front(s);
-    match front {
-        Front::Limits(l) => judge_fields(s, l),
-        Front::Refused(r) => NetRead::Refused(r),
-    }
-}
-
 fn put_node(
     d: Node,
     i: usize,
@@ -222,36 +173,93 @@ fn put_node(
     polarity[i] = d.polarity;
 }
 
-// Fills the columns: the source, and the nodes that the file has from byte 12 on.
-fn fill(
+// The fields after the limits, judged one by one over the kinds of the nodes so far and the children that each has. The nodes are kept in
+// columns of our own, since nothing is written to lent ones before all is judged.
+fn judge_fields(
     s: &[u8],
-    places: usize,
+    l: Limits,
+    parent: &mut [u16],
+    wire: &mut [u32],
+    kind: &mut [u8],
+    pin: &mut [u32],
+    polarity: &mut [u8],
+) -> NetRead
+    requires { ⌜ netAt unlimited parent wire kind pin polarity ≡ blank ⌝ }
+    ensures { λ r. ⌜ JudgedFile (now (s .entry)) (netFrom (now (s .entry)) l) (netAt unlimited (parent .exit) (wire .exit) (kind .exit) (pin .exit) (polarity .exit)) r ⌝ }
+{
+    let mut counts = [0u8; 1025];
+    let mut at: usize = 12;
+    let mut i: usize = 1;
+    loop {
+        let taken = take_node(s, at);
+        match taken {
+            Taken::Node(d, next) => {
+                let here = net::admit(l, d, i, kind, &counts, at);
+                if let Judged::Refused(r) = here {
+                    return NetRead::Refused(r);
+                }
+                net::tally(&mut counts, d.parent as usize);
+                put_node(d, i, parent, wire, kind, pin, polarity);
+                i += 1;
+                at = next;
+            }
+            Taken::End(next) => {
+                let end = finish(s, next, kind, &counts, i);
+                if let Judged::Refused(r) = end {
+                    return NetRead::Refused(r);
+                }
+                return NetRead::Read {
+                    limits: l,
+                    places: i,
+                };
+            }
+            Taken::Refused(r) => {
+                return NetRead::Refused(r);
+            }
+        }
+    }
+}
+
+// A whole file, judged.
+fn judge_file(
+    s: &[u8],
+    parent: &mut [u16],
+    wire: &mut [u32],
+    kind: &mut [u8],
+    pin: &mut [u32],
+    polarity: &mut [u8],
+) -> NetRead
+    requires { ⌜ netAt unlimited parent wire kind pin polarity ≡ blank ⌝ }
+    ensures { λ r. ⌜ JudgedFile (now (s .entry)) (netOf (now (s .entry))) (netAt unlimited (parent .exit) (wire .exit) (kind .exit) (pin .exit) (polarity .exit)) r ⌝ }
+{
+    let front = read_front(s);
+    match front {
+        Front::Limits(l) => judge_fields(s, l, parent, wire, kind, pin, polarity),
+        Front::Refused(r) => NetRead::Refused(r),
+    }
+}
+
+// The first n places of our columns, copied into lent ones.
+fn fill(
+    n: usize,
+    parents: &[u16],
+    wires: &[u32],
+    kinds: &[u8],
+    pins: &[u32],
+    polarities: &[u8],
     parent: &mut [u16],
     wire: &mut [u32],
     kind: &mut [u8],
     pin: &mut [u32],
     polarity: &mut [u8],
 )
-    requires { ⌜ (1 ≤ places) × Within (places - 1) (now parent) (now wire) (now kind) (now pin) (now polarity) ⌝ }
-    ensures { λ _. ⌜ netAt unlimited (parent .exit) (wire .exit) (kind .exit) (pin .exit) (polarity .exit) ≡ laidOver (netAt unlimited (parent .entry) (wire .entry) (kind .entry) (pin .entry) (polarity .entry)) 0 (columnsOf unlimited (source ∷ nodesOf (fieldsFrom (places - 1) (now (s .entry)) 12))) ⌝ }
+    requires { ⌜ Room n (netAt unlimited parents wires kinds pins polarities) × Room n (netAt unlimited parent wire kind pin polarity) ⌝ }
+    ensures { λ _. ⌜ netAt unlimited (parent .exit) (wire .exit) (kind .exit) (pin .exit) (polarity .exit) ≡ laidOver (netAt unlimited (parent .entry) (wire .entry) (kind .entry) (pin .entry) (polarity .entry)) 0 (columnsOf unlimited (listed (node (netAt unlimited (parents .entry) (wires .entry) (kinds .entry) (pins .entry) (polarities .entry))) n 0)) ⌝ }
 {
-    let nothing = Node {
-        parent: 0,
-        wire: 0,
-        kind: 0,
-        pin: 0,
-        polarity: 0,
-    };
-    put_node(nothing, 0, parent, wire, kind, pin, polarity);
-    let mut at: usize = 12;
-    let mut i: usize = 1;
-    while i < places {
-        let taken = take_node(s, at);
-        let Taken::Node(d, next) = taken else {
-            return;
-        };
+    let mut i: usize = 0;
+    while i < n {
+        let d = net::node_at(parents, wires, kinds, pins, polarities, i);
         put_node(d, i, parent, wire, kind, pin, polarity);
-        at = next;
         i += 1;
     }
 }
@@ -280,7 +288,19 @@ pub fn read_net(
 ) -> NetRead
     ensures { λ r. ⌜ ReadNet (now (s .entry)) (netAt unlimited (parent .entry) (wire .entry) (kind .entry) (pin .entry) (polarity .entry)) (netAt unlimited (parent .exit) (wire .exit) (kind .exit) (pin .exit) (polarity .exit)) r ⌝ }
 {
-    let judged = judge_file(s);
+    let mut parents = [0u16; 1025];
+    let mut wires = [0u32; 1025];
+    let mut kinds = [0u8; 1025];
+    let mut pins = [0u32; 1025];
+    let mut polarities = [0u8; 1025];
+    let judged = judge_file(
+        s,
+        &mut parents,
+        &mut wires,
+        &mut kinds,
+        &mut pins,
+        &mut polarities,
+    );
     let NetRead::Read { limits: _, places } = judged else {
         return judged;
     };
@@ -294,7 +314,19 @@ pub fn read_net(
     if most < places {
         return NetRead::Refused(Refusal::NoRoom(places as u64));
     }
-    fill(s, places, parent, wire, kind, pin, polarity);
+    fill(
+        places,
+        &parents,
+        &wires,
+        &kinds,
+        &pins,
+        &polarities,
+        parent,
+        wire,
+        kind,
+        pin,
+        polarity,
+    );
     judged
 }
 
