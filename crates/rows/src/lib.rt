@@ -102,15 +102,10 @@ pub fn hang_side(
     counts[i] = m + n;
     loads[i] = a;
     mores[i] = b;
-    mix(
-        rows,
-        from * 34 + p * 17,
-        last,
-        i * 34 + p * 17,
-        a,
-        b,
-        states::least(a, c.pin),
-    );
+    let f = states::least(a, c.pin);
+    let read = from * 34 + p * 17;
+    let made = i * 34 + p * 17;
+    mix(rows, read, last, made, a, b, f);
 }
 
 // The least surplus at which the load fits, or one more than `last`.

@@ -60,8 +60,9 @@ pub fn at_source(
     let b = rows::close(c, rows, minus, 1, last, k);
     let p = lighter(a, b);
     let e = cuts::surplus(c, rows, k * 34 + p * 17, last, 0);
+    let s = states::merge(a, b);
     Source {
-        side: states::merge(a, b),
+        side: s,
         sense: p,
         left: e,
     }

@@ -64,38 +64,38 @@ mul-mores c = search needs
 element-write-mores : tie.Need-element-write-mores
 element-write-mores c = search needs
 
-mul-mix : tie.Need-mul-mix
-mul-mix c = search needs
-
-mul-mix-2 : tie.Need-mul-mix-2
-mul-mix-2 c = search needs
-
-add-mix : tie.Need-add-mix
-add-mix c = search needs
-
-mul-mix-3 : tie.Need-mul-mix-3
-mul-mix-3 c = search needs
-
-mul-mix-4 : tie.Need-mul-mix-4
-mul-mix-4 c = search needs
-
-add-mix-2 : tie.Need-add-mix-2
-add-mix-2 c = search needs
-
 least-requires : tie.Need-least-requires
 least-requires c κs = search needs
+
+mul-read : tie.Need-mul-read
+mul-read c = search needs
+
+mul-read-2 : tie.Need-mul-read-2
+mul-read-2 c = search needs
+
+add-read : tie.Need-add-read
+add-read c = search needs
+
+mul-made : tie.Need-mul-made
+mul-made c = search needs
+
+mul-made-2 : tie.Need-mul-made-2
+mul-made-2 c = search needs
+
+add-made : tie.Need-add-made
+add-made c = search needs
 
 mix-requires : tie.Need-mix-requires
 mix-requires c κs =
     let s = c .before .before .before .before .before .before .before in
     let h = subst (Small 1000000000000) (c .before .before .before .before .before .s .given .1) (s .pre .1 .1 .1 .1) in
     let r = row-small (getD (s .args .counts .now) (s .args .from) 0) _ (loadAt (s .args .rows .now) (s .args .from * 34 + s .args .p * 17) (s .args .last)) refl (c .before .before .if1 .left) (s .pre .1 .1 .1 .2) in
-    ((s .pre .0 .0, omega arith, omega arith), (apart (s .args .p) (s .args .last) (s .args .from) (s .args .i) (s .pre .1 .0 .1) (s .pre .1 .1 .0), ((h .1, h .2, omega (arith, c .least .ensures, h .1)), r .1)))
+    ((s .pre .0 .0, omega arith, omega arith), (apart (s .args .p) (s .args .last) (s .args .from) (s .args .i) (s .pre .1 .0 .1) (s .pre .1 .1 .0), ((h .1, h .2, omega (arith, c .before .least .ensures, h .1)), r .1)))
 
 returns-3 : tie.Need-returns-3
 returns-3 c =
     let s = c .before .before .before .before .before .before .before .before in
-    hung-more _ _ _ _ _ _ _ _ _ _ (omega arith) _ _ _ _ _ (ap st (c .before .before .before .before .before .before .s .given .1)) refl (c .before .before .before .if1 .left) (s .pre .1 .0 .1) (omega arith) (omega arith) (rw (sym (c .before .least .ensures)) (c .mix .ensures))
+    hung-more _ _ _ _ _ _ _ _ _ _ (omega arith) _ _ _ _ _ (ap st (c .before .before .before .before .before .before .s .given .1)) refl (c .before .before .before .if1 .left) (s .pre .1 .0 .1) (omega arith) (omega arith) (rw (sym (c .before .before .least .ensures)) (c .mix .ensures))
 
 pub hang-side-spec : {M : Type 1} → statement M
 hang-side-spec =
@@ -118,12 +118,12 @@ hang-side-spec =
     element-write-loads
     mul-mores
     element-write-mores
-    mul-mix
-    mul-mix-2
-    add-mix
-    mul-mix-3
-    mul-mix-4
-    add-mix-2
     least-requires
+    mul-read
+    mul-read-2
+    add-read
+    mul-made
+    mul-made-2
+    add-made
     mix-requires
     returns-3)
