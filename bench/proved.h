@@ -14,6 +14,15 @@ static struct answer proved_reader(const uint8_t *bytes, size_t length, struct l
     return answer;
 }
 
+static struct answer proved_solver(const struct limits *limits, const struct columns *net,
+                                   uint16_t *wire, uint32_t *offset, size_t room)
+{
+    struct answer answer;
+    answer.number = proved_solve(limits->limit, limits->pin, limits->type, PROVED_COLUMNS(net),
+                                 wire, room, offset, room, &answer.place);
+    return answer;
+}
+
 static struct answer proved_checker(const struct limits *limits, const struct columns *net,
                                     const uint16_t *wire, const uint32_t *offset, size_t entries,
                                     uint64_t *source)
@@ -24,4 +33,4 @@ static struct answer proved_checker(const struct limits *limits, const struct co
     return answer;
 }
 
-#define CONTENDERS {"proved", proved_reader, NULL, proved_checker},
+#define CONTENDERS {"proved", proved_reader, proved_solver, proved_checker},

@@ -104,6 +104,19 @@ static struct ref_answer judge(struct ref_limits limits, struct net_columns net)
     return (struct ref_answer){number, *place};
 }
 
+static struct ref_answer solve(struct ref_limits limits, struct net_columns net,
+                               struct entry_columns to)
+{
+    fence_anew();
+    struct net_columns lent = lend_net(net);
+    struct entry_columns list = lend_entries(to);
+    uint64_t *place = lend_place();
+    uint32_t number = proved_solve(LIMITS(limits), COLUMNS(lent), ENTRIES(list), place);
+    TAKE_BACK(to.wire, list.wire, to.wires);
+    TAKE_BACK(to.offset, list.offset, to.offsets);
+    return (struct ref_answer){number, *place};
+}
+
 static struct ref_answer check(struct ref_limits limits, struct net_columns net,
                                struct entry_columns placement, uint64_t *source)
 {
@@ -149,8 +162,8 @@ static struct ref_answer carry(struct ref_limits first_limits, struct net_column
 
 const struct calls proved_calls = {
     .name = "proved", .read_net = read_net, .read_placement = read_placement,
-    .write_net = write_net, .write_placement = write_placement, .judge = judge, .check = check,
-    .drives = list_drives, .carry = carry,
+    .write_net = write_net, .write_placement = write_placement, .judge = judge, .solve = solve,
+    .check = check, .drives = list_drives, .carry = carry,
 };
 
 static struct net_columns columns_of(const struct ref_net *net)
@@ -162,6 +175,17 @@ static struct net_columns columns_of(const struct ref_net *net)
     struct ref_net *c = &copy[which];
     size_t n = c->nodes;
     return (struct net_columns){c->parent, c->wire, c->kind, c->pin, c->polarity, n, n, n, n, n};
+}
+
+int64_t least_proved(const struct ref_net *net, struct ref_placement *p)
+{
+    struct entry_columns to = {p->wire, p->offset, REF_ENTRIES, REF_ENTRIES};
+    struct ref_answer found = solve(net->limits, columns_of(net), to);
+    if (found.number == 0)
+        p->entries = found.place;
+    return found.number == 0 || found.number == 9 ? (int64_t)found.place
+         : found.number == 8                      ? REF_NONE
+                                                  : -1 - (int64_t)found.number;
 }
 
 struct ref_answer carry_proved(const struct ref_net *first, const struct ref_net *second,

@@ -27,6 +27,12 @@ uint32_t proved_judge(uint32_t limit, uint32_t cb, uint8_t repeater,
                       const uint8_t *kind, size_t kinds, const uint32_t *pin, size_t pins,
                       const uint8_t *polarity, size_t polarities, uint64_t *place);
 
+uint32_t proved_solve(uint32_t limit, uint32_t cb, uint8_t repeater,
+                      const uint16_t *parent, size_t parents, const uint32_t *wire, size_t wires,
+                      const uint8_t *kind, size_t kinds, const uint32_t *pin, size_t pins,
+                      const uint8_t *polarity, size_t polarities,
+                      uint16_t *entry_wire, size_t entry_wires,
+                      uint32_t *offset, size_t offsets, uint64_t *place);
 uint32_t proved_check(uint32_t limit, uint32_t cb, uint8_t repeater,
                       const uint16_t *parent, size_t parents, const uint32_t *wire, size_t wires,
                       const uint8_t *kind, size_t kinds, const uint32_t *pin, size_t pins,
@@ -56,7 +62,8 @@ uint32_t proved_carry(uint32_t limit, uint32_t cb, uint8_t repeater,
 
 extern const struct calls proved_calls;
 
-/* For compare_carries. */
+/* For compare_searches and compare_carries. */
+int64_t least_proved(const struct ref_net *net, struct ref_placement *placement);
 struct ref_answer carry_proved(const struct ref_net *first, const struct ref_net *second,
                                struct ref_placement *placement, int *refused_net);
 

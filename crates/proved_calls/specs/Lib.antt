@@ -2,3 +2,4 @@ pub mod Answers
 pub mod Checks
 pub mod Files
 pub mod Carries
+pub mod Solves

@@ -3,6 +3,7 @@
 mod carries;
 mod checks;
 mod files;
+mod solves;
 
 use net::Judged;
 use net::Limits;
