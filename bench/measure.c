@@ -43,6 +43,12 @@ struct work {
 
 enum call { READ, SOLVE, CHECK };
 
+static bool has(const struct contender *who, enum call call)
+{
+    return call == READ ? who->read != NULL : call == SOLVE ? who->solve != NULL
+                                                            : who->check != NULL;
+}
+
 static struct answer once(const struct contender *who, enum call call, struct work *w)
 {
     struct limits limits;
@@ -79,14 +85,24 @@ static double round_of(const struct contender *who, enum call call, struct work 
     return (end - start) / (double)calls;
 }
 
+static void print_cell(bool there, double figure)
+{
+    if (there)
+        printf(" %.2f |", figure);
+    else
+        printf(" - |");
+}
+
 /* Rounds of all contenders take turns, so that a disturbance meets them alike. */
 static void measure(const char *what, enum call call, struct work *w)
 {
     double best[CONTENDING];
     struct answer first = once(&contenders[0], call, w);
     for (int i = 0; i < CONTENDING; i++) {
-        struct answer other = once(&contenders[i], call, w);
         best[i] = 1e30;
+        if (!has(&contenders[i], call))
+            continue;
+        struct answer other = once(&contenders[i], call, w);
         if (other.number != first.number || other.place != first.place) {
             printf("%s: %s answers otherwise\n", what, contenders[i].name);
             exit(1);
@@ -94,14 +110,14 @@ static void measure(const char *what, enum call call, struct work *w)
     }
     for (int round = 0; round < ROUNDS; round++)
         for (int i = 0; i < CONTENDING; i++) {
-            double time = round_of(&contenders[i], call, w);
+            double time = has(&contenders[i], call) ? round_of(&contenders[i], call, w) : 1e30;
             best[i] = time < best[i] ? time : best[i];
         }
     printf("| %s | %" PRIu32 ", %" PRIu64 " |", what, first.number, first.place);
     for (int i = 0; i < CONTENDING; i++)
-        printf(" %.2f |", best[i]);
+        print_cell(has(&contenders[i], call), best[i]);
     for (int i = 1; i < CONTENDING; i++)
-        printf(" %.2f |", best[i] / best[0]);
+        print_cell(has(&contenders[i], call), best[i] / best[0]);
     printf("\n");
 }
 
@@ -138,24 +154,38 @@ static void set_up(struct work *w, enum form form, uint32_t nodes, uint32_t limi
 
 static const char *const FORM[] = {"points", "chain", "star"};
 
+static void solves(struct work *w, enum form form, uint32_t nodes, uint32_t limit)
+{
+    char what[80];
+    for (uint8_t type = 0; type < 2; type++) {
+        set_up(w, form, nodes, limit, type);
+        snprintf(what, sizeof what, "solve, %s, %u nodes, C_U %u, type %u", FORM[form], nodes,
+                 limit, type);
+        measure(what, SOLVE, w);
+    }
+}
+
+static void checks(struct work *w, enum form form, uint32_t nodes)
+{
+    char what[80];
+    set_up(w, form, nodes, 100000, 0);
+    lighten(&w->net);
+    for (int i = 0; i < 3; i++) {
+        spread_entries(w, (size_t[]){0, 100, 4096}[i]);
+        snprintf(what, sizeof what, "check, %s, %u nodes", FORM[form], nodes);
+        measure(what, CHECK, w);
+    }
+}
+
 static void all_calls(struct work *w, enum form form, uint32_t nodes)
 {
     char what[80];
     set_up(w, form, nodes, 100000, 1);
     snprintf(what, sizeof what, "read, %s, %u nodes, %zu bytes", FORM[form], nodes, w->length);
     measure(what, READ, w);
-    for (uint8_t type = 0; type < 2; type++) {
-        set_up(w, form, nodes, 100000, type);
-        snprintf(what, sizeof what, "solve, %s, %u nodes, type %u", FORM[form], nodes, type);
-        measure(what, SOLVE, w);
-    }
-    lighten(&w->net);
-    for (int i = 0; i < 3; i++) {
-        size_t entries = (size_t[]){0, 100, 4096}[i];
-        spread_entries(w, entries);
-        snprintf(what, sizeof what, "check, %s, %u nodes", FORM[form], nodes);
-        measure(what, CHECK, w);
-    }
+    solves(w, form, nodes, 50000);
+    solves(w, form, nodes, 800000);
+    checks(w, form, nodes);
 }
 
 int main(void)

@@ -1,10 +1,12 @@
-# Read by the scripts: compiler, flags and emulator for x86-64 programs on this machine, unless they are set already.
+# Read by the scripts: compilers, flags and emulator for x86-64 programs on this machine, unless they are set already.
 case $(uname -m) in
 x86_64)
     CC=${CC:-gcc} CFLAGS=${CFLAGS:--O2} RUN=${RUN:-}
+    RUSTFLAGS=${RUSTFLAGS:--O}
     ;;
 *)
     CC=${CC:-x86_64-linux-gnu-gcc} CFLAGS=${CFLAGS:--O2 -static} RUN=${RUN:-qemu-x86_64}
+    RUSTFLAGS=${RUSTFLAGS:--O --target x86_64-unknown-linux-gnu -C linker=x86_64-linux-gnu-gcc -C target-feature=+crt-static}
     ;;
 esac
-export CC CFLAGS RUN PYTHONDONTWRITEBYTECODE=1
+export CC CFLAGS RUN RUSTFLAGS PYTHONDONTWRITEBYTECODE=1

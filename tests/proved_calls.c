@@ -104,6 +104,19 @@ static struct ref_answer judge(struct ref_limits limits, struct net_columns net)
     return (struct ref_answer){number, *place};
 }
 
+static struct ref_answer solve(struct ref_limits limits, struct net_columns net,
+                               struct entry_columns to)
+{
+    fence_anew();
+    struct net_columns lent = lend_net(net);
+    struct entry_columns list = lend_entries(to);
+    uint64_t *place = lend_place();
+    uint32_t number = proved_solve(LIMITS(limits), COLUMNS(lent), ENTRIES(list), place);
+    TAKE_BACK(to.wire, list.wire, to.wires);
+    TAKE_BACK(to.offset, list.offset, to.offsets);
+    return (struct ref_answer){number, *place};
+}
+
 static struct ref_answer check(struct ref_limits limits, struct net_columns net,
                                struct entry_columns placement, uint64_t *source)
 {
@@ -131,8 +144,54 @@ static struct ref_answer list_drives(struct ref_limits limits, struct net_column
     return (struct ref_answer){number, *place};
 }
 
+static struct ref_answer carry(struct ref_limits first_limits, struct net_columns first,
+                               struct ref_limits second_limits, struct net_columns second,
+                               struct entry_columns placement, int *refused_net)
+{
+    fence_anew();
+    struct net_columns a = lend_net(first), b = lend_net(second);
+    struct entry_columns list = lend_entries(placement);
+    uint32_t *which = LEND(&(uint32_t){9}, 1);
+    uint64_t *place = lend_place();
+    uint32_t number = proved_carry(LIMITS(first_limits), COLUMNS(a), LIMITS(second_limits),
+                                   COLUMNS(b), ENTRIES(list), which, place);
+    TAKE_BACK(placement.offset, list.offset, placement.offsets);
+    *refused_net = (int)*which;
+    return (struct ref_answer){number, *place};
+}
+
 const struct calls proved_calls = {
     .name = "proved", .read_net = read_net, .read_placement = read_placement,
-    .write_net = write_net, .write_placement = write_placement, .judge = judge, .check = check,
-    .drives = list_drives,
+    .write_net = write_net, .write_placement = write_placement, .judge = judge, .solve = solve,
+    .check = check, .drives = list_drives, .carry = carry,
 };
+
+static struct net_columns columns_of(const struct ref_net *net)
+{
+    static struct ref_net copy[2];
+    static int which;
+    which = 1 - which;                   /* a carry has two nets */
+    copy[which] = *net;
+    struct ref_net *c = &copy[which];
+    size_t n = c->nodes;
+    return (struct net_columns){c->parent, c->wire, c->kind, c->pin, c->polarity, n, n, n, n, n};
+}
+
+int64_t least_proved(const struct ref_net *net, struct ref_placement *p)
+{
+    struct entry_columns to = {p->wire, p->offset, REF_ENTRIES, REF_ENTRIES};
+    struct ref_answer found = solve(net->limits, columns_of(net), to);
+    if (found.number == 0)
+        p->entries = found.place;
+    return found.number == 0 || found.number == 9 ? (int64_t)found.place
+         : found.number == 8                      ? REF_NONE
+                                                  : -1 - (int64_t)found.number;
+}
+
+struct ref_answer carry_proved(const struct ref_net *first, const struct ref_net *second,
+                               struct ref_placement *p, int *refused_net)
+{
+    struct entry_columns list = {p->wire, p->offset, p->entries, p->entries};
+    return carry(first->limits, columns_of(first), second->limits, columns_of(second), list,
+                 refused_net);
+}

@@ -27,6 +27,12 @@ uint32_t proved_judge(uint32_t limit, uint32_t cb, uint8_t repeater,
                       const uint8_t *kind, size_t kinds, const uint32_t *pin, size_t pins,
                       const uint8_t *polarity, size_t polarities, uint64_t *place);
 
+uint32_t proved_solve(uint32_t limit, uint32_t cb, uint8_t repeater,
+                      const uint16_t *parent, size_t parents, const uint32_t *wire, size_t wires,
+                      const uint8_t *kind, size_t kinds, const uint32_t *pin, size_t pins,
+                      const uint8_t *polarity, size_t polarities,
+                      uint16_t *entry_wire, size_t entry_wires,
+                      uint32_t *offset, size_t offsets, uint64_t *place);
 uint32_t proved_check(uint32_t limit, uint32_t cb, uint8_t repeater,
                       const uint16_t *parent, size_t parents, const uint32_t *wire, size_t wires,
                       const uint8_t *kind, size_t kinds, const uint32_t *pin, size_t pins,
@@ -42,6 +48,23 @@ uint32_t proved_list_drives(uint32_t limit, uint32_t cb, uint8_t repeater,
                             const uint32_t *offset, size_t offsets,
                             uint64_t *out, size_t room, uint64_t *source, uint64_t *place);
 
+uint32_t proved_carry(uint32_t limit, uint32_t cb, uint8_t repeater,
+                      const uint16_t *parent, size_t parents, const uint32_t *wire, size_t wires,
+                      const uint8_t *kind, size_t kinds, const uint32_t *pin, size_t pins,
+                      const uint8_t *polarity, size_t polarities,
+                      uint32_t limit2, uint32_t cb2, uint8_t repeater2,
+                      const uint16_t *parent2, size_t parents2,
+                      const uint32_t *wire2, size_t wires2, const uint8_t *kind2, size_t kinds2,
+                      const uint32_t *pin2, size_t pins2,
+                      const uint8_t *polarity2, size_t polarities2,
+                      const uint16_t *entry_wire, size_t entry_wires,
+                      uint32_t *offset, size_t offsets, uint32_t *which, uint64_t *place);
+
 extern const struct calls proved_calls;
+
+/* For compare_searches and compare_carries. */
+int64_t least_proved(const struct ref_net *net, struct ref_placement *placement);
+struct ref_answer carry_proved(const struct ref_net *first, const struct ref_net *second,
+                               struct ref_placement *placement, int *refused_net);
 
 #endif

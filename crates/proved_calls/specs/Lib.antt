@@ -1,3 +1,5 @@
 pub mod Answers
 pub mod Checks
 pub mod Files
+pub mod Carries
+pub mod Solves

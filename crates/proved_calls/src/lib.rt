@@ -1,7 +1,9 @@
 // The proved calls over numbers and slices alone, so that the tests and the benches can make them from C.
 // Each answers document 01's number and leaves the place, or on success what the call answers, in `place`.
+mod carries;
 mod checks;
 mod files;
+mod solves;
 
 use net::Judged;
 use net::Limits;

@@ -1,0 +1,57 @@
+/* What a router does: this file knows the library by its header alone. */
+#include "../include/mustorgyel.h"
+
+#include <stdio.h>
+#include <stdlib.h>
+#include <string.h>
+
+/* Document 01's net: C_U 10, C_b 2, buffers; one sink at a wire of 14, pin 4. And one byte more. */
+static const uint8_t net[30] = {
+    0x01, 0x00, 0x09, 0, 0, 0, 10, 0, 0, 0, 2, 0,
+    0x03, 0x00, 0x0B, 0, 0, 0, 0, 0, 14, 0, 0, 0, 4, 0,
+    0x7F, 0x00, 0x00, 0x00,
+};
+
+/* One entry on a wire at an offset. */
+static void placement_of(uint8_t *file, uint8_t wire, uint8_t offset)
+{
+    const uint8_t bytes[17] = {0x11, 0, 2, 0, 1, 0x12, 0, 6, 0, wire, 0, 0, 0, offset, 0x7F, 0, 0};
+    memcpy(file, bytes, sizeof bytes);
+}
+
+static const uint8_t none[8] = {0x11, 0, 2, 0, 0, 0x7F, 0, 0};
+
+static void expect(const char *what, uint32_t want, uint32_t have)
+{
+    if (want == have)
+        return;
+    printf("%s: %u, not %u\n", what, (unsigned)have, (unsigned)want);
+    exit(1);
+}
+
+int main(void)
+{
+    uint8_t one[17];
+    for (uint8_t offset = 0; offset <= 14; offset++) {
+        placement_of(one, 1, offset);
+        expect("one entry serves at 6 only", offset == 6 ? 0 : 11,
+               mustorgyel_check(net, 29, one, 17));
+    }
+    placement_of(one, 1, 15);
+    expect("an entry past its wire", 10, mustorgyel_check(net, 29, one, 17));
+    placement_of(one, 2, 0);
+    expect("an entry on no wire", 10, mustorgyel_check(net, 29, one, 17));
+    placement_of(one, 0, 0);
+    expect("wire 0 in a file", 3, mustorgyel_check(net, 29, one, 17));
+    expect("no entries", 11, mustorgyel_check(net, 29, none, 8));
+    expect("the net cut", 1, mustorgyel_check(net, 28, none, 8));
+    expect("the net with a byte more", 6, mustorgyel_check(net, 30, none, 8));
+    expect("the placement cut", 1, mustorgyel_check(net, 29, none, 7));
+    expect("the two exchanged", 2, mustorgyel_check(none, 8, net, 29));
+    expect("the net's refusal first", 1, mustorgyel_check(net, 28, none, 7));
+    expect("no net file", 1, mustorgyel_check(NULL, 0, none, 8));
+    expect("no placement file", 1, mustorgyel_check(net, 29, NULL, 0));
+    expect("neither", 1, mustorgyel_check(NULL, 0, NULL, 0));
+    printf("the router's call from C: as document 01 says\n");
+    return 0;
+}
