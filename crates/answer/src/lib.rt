@@ -136,6 +136,7 @@ pub fn put_answer(
     requires { ⌜ (length (now offsets) ≡ length (now wires)) × (length (now loads) ≡ length (now wires)) ⌝ }
     requires { ⌜ 64 * (length (now wires) + 2) ≤ length (now out) ⌝ }
     ensures { λ r. ⌜ Laid (now (out .entry)) 0 (answerText (now (wires .entry)) (now (offsets .entry)) (now (loads .entry)) source) (now (out .exit)) r ⌝ }
+    ensures { λ r. ⌜ r ≤ 64 * (length (now (wires .entry)) + 2) ⌝ }
 {
     let first = put_line(out, 0, least_line(wires.len() as u64));
     let after = put_entries(out, first, wires, offsets, loads);

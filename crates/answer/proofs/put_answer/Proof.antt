@@ -31,11 +31,14 @@ put-line-requires-2 c κs =
 returns : tie.Need-returns
 unfolding answerText
 returns c =
+    let q = c .before .before .put-line2 .ensures in
     let e = c .before .before .before .before .before .before .before in
     let p = e .before .before .before .before in
-    then-laid
-    (laid-as (of-line _ (p .before .least-line .ensures)) (p .put-line .ensures))
-    (then-laid (e .put-entries .ensures .0) (laid-as (of-line _ (c .before .before .before .source-line .ensures)) (c .before .before .put-line2 .ensures)))
+    let l = of-line _ (p .before .least-line .ensures) in
+    let s = of-line _ (c .before .before .before .source-line .ensures) in (
+      then-laid (laid-as l (p .put-line .ensures)) (then-laid (e .put-entries .ensures .0) (laid-as s q)),
+      omega (arith, ap length l, ap length s),
+    )
 
 pub put-answer-spec : {M : Type 1} → statement M
 put-answer-spec =
