@@ -1,5 +1,5 @@
 -- Document 01, "The printed answer": each line, and the whole answer, as the bytes of its text.
-use Prim.Native.Nat.{ℕ, zero, suc, _+_, _/_, _%_}
+use Prim.Native.Nat.{ℕ, zero, suc, _+_, _/_, _%_, _≤_}
 use mathlib.Core.Path.{_≡_}
 use mathlib.Core.List.{List, [], _∷_, _++_}
 use lib.ListN.{length, replicate}
@@ -69,9 +69,13 @@ sourceLine l = said source l ++ end
 unfoldable pub refusedLine : Refusal → List ℕ
 refusedLine r = (said refused (numberOf r) ++ said place (placeOf r)) ++ end
 
--- a line of at most 64 bytes as it is handed over: its bytes, zeros after them, and how many there are
+-- a line as it is handed over: its bytes, zeros after them, and how many there are
 abbrev pub line : List ℕ → Line
 line bytes = record { text = sets (replicate 64 0) 0 bytes; bytes = length bytes }
+
+pub record IsLine (bytes : List ℕ) (r : Line) : Type 0 where
+  pub is : r ≡ line bytes
+  pub short : length bytes ≤ 64
 
 -- `bytes` stand in a buffer from the place `at` on, where `before` was; `next` is the place after them
 pub record Laid (before : List ℕ) (at : ℕ) (bytes after : List ℕ) (next : ℕ) : Type 0 where

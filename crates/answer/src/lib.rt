@@ -1,8 +1,8 @@
 // The lines of the printed answer: document 01, "The printed answer".
 ghost use mathlib.Core.Path.{_≡_};
-ghost use Prim.Native.Nat.{_+_, _≤_};
-ghost use lib.ListN.{length};
-ghost use Rattle.answer.specs.Text.{Laid, digits, said, leastLine, entryLine, sourceLine, refusedLine, line};
+ghost use Prim.Native.Nat.{_+_, _*_, _≤_};
+ghost use lib.ListN.{length, take};
+ghost use Rattle.answer.specs.Text.{Laid, digits, said, leastLine, entryLine, sourceLine, refusedLine, IsLine, entryLines, answerText};
 use net::Refusal;
 
 // A line of text: the first `bytes` places of `text`, the last of them the line's end. The other places hold 0.
@@ -44,7 +44,7 @@ fn say(out: &mut [u8], at: usize, word: &[u8], n: u64) -> usize
 
 // `least N`: the count.
 pub fn least_line(n: u64) -> Line
-    ensures { λ r. ⌜ r ≡ line (leastLine n) ⌝ }
+    ensures { λ r. ⌜ IsLine (leastLine n) r ⌝ }
 {
     let mut text = [0u8; 64];
     let at = say(&mut text, 0, b"least ", n);
@@ -57,7 +57,7 @@ pub fn least_line(n: u64) -> Line
 
 // `wire W offset O drives L`: an entry and its load.
 pub fn entry_line(wire: u16, offset: u32, load: u64) -> Line
-    ensures { λ r. ⌜ r ≡ line (entryLine wire offset load) ⌝ }
+    ensures { λ r. ⌜ IsLine (entryLine wire offset load) r ⌝ }
 {
     let mut text = [0u8; 64];
     let first = say(&mut text, 0, b"wire ", wire as u64);
@@ -72,7 +72,7 @@ pub fn entry_line(wire: u16, offset: u32, load: u64) -> Line
 
 // `source drives L`: the source's load.
 pub fn source_line(load: u64) -> Line
-    ensures { λ r. ⌜ r ≡ line (sourceLine load) ⌝ }
+    ensures { λ r. ⌜ IsLine (sourceLine load) r ⌝ }
 {
     let mut text = [0u8; 64];
     let at = say(&mut text, 0, b"source drives ", load);
@@ -85,7 +85,7 @@ pub fn source_line(load: u64) -> Line
 
 // `refused N place P`.
 pub fn refused_line(why: Refusal) -> Line
-    ensures { λ r. ⌜ r ≡ line (refusedLine why) ⌝ }
+    ensures { λ r. ⌜ IsLine (refusedLine why) r ⌝ }
 {
     let number = net::number(why);
     let place = net::place(why);
@@ -97,4 +97,48 @@ pub fn refused_line(why: Refusal) -> Line
         text: text,
         bytes: bytes,
     }
+}
+
+// Lays a line from the place at on, and answers the place after it.
+pub fn put_line(out: &mut [u8], at: usize, line: Line) -> usize
+    requires { ⌜ (line .bytes ≤ length (line .text)) × (at + line .bytes ≤ length (now out)) ⌝ }
+    ensures { λ r. ⌜ Laid (now (out .entry)) at (take (line .bytes) (line .text)) (now (out .exit)) r ⌝ }
+{
+    let text = line.text;
+    let bytes = line.bytes;
+    put(out, at, &text[..bytes])
+}
+
+// Lays one line an entry.
+fn put_entries(out: &mut [u8], at: usize, wires: &[u16], offsets: &[u32], loads: &[u64]) -> usize
+    requires { ⌜ (length (now offsets) ≡ length (now wires)) × (length (now loads) ≡ length (now wires)) ⌝ }
+    requires { ⌜ at + 64 * length (now wires) ≤ length (now out) ⌝ }
+    ensures { λ r. ⌜ Laid (now (out .entry)) at (entryLines (now (wires .entry)) (now (offsets .entry)) (now (loads .entry))) (now (out .exit)) r ⌝ }
+    ensures { λ r. ⌜ r ≤ at + 64 * length (now (wires .entry)) ⌝ }
+{
+    let mut next = at;
+    let mut k = 0;
+    while k < wires.len() {
+        next = put_line(out, next, entry_line(wires[k], offsets[k], loads[k]));
+        k += 1;
+    }
+    next
+}
+
+// Lays the whole answer: the count, one line an entry, and the source's load.
+pub fn put_answer(
+    out: &mut [u8],
+    wires: &[u16],
+    offsets: &[u32],
+    loads: &[u64],
+    source: u64,
+) -> usize
+    requires { ⌜ (length (now offsets) ≡ length (now wires)) × (length (now loads) ≡ length (now wires)) ⌝ }
+    requires { ⌜ 64 * (length (now wires) + 2) ≤ length (now out) ⌝ }
+    ensures { λ r. ⌜ Laid (now (out .entry)) 0 (answerText (now (wires .entry)) (now (offsets .entry)) (now (loads .entry)) source) (now (out .exit)) r ⌝ }
+    ensures { λ r. ⌜ r ≤ 64 * (length (now (wires .entry)) + 2) ⌝ }
+{
+    let first = put_line(out, 0, least_line(wires.len() as u64));
+    let after = put_entries(out, first, wires, offsets, loads);
+    put_line(out, after, source_line(source))
 }

@@ -3,7 +3,7 @@ use native.Mathlib.Omega.{arith}
 use borrow.Author.Needs.{needs}
 use Rattle.answer.specs.Text.{entryLine, wire, offset, drives}
 use Rattle.answer.proofs.Digits.{said-few}
-use Rattle.answer.proofs.Laying.{then-laid, as-line, kept}
+use Rattle.answer.proofs.Laying.{then-laid, ended, kept}
 use Rattle.answer.proofs.entry_line.Statement.{statement}
 use Rattle.answer.proofs.entry_line.Tie as tie
 
@@ -39,7 +39,10 @@ returns c =
     let u = c .before .before .before .before .before in
     let t = u .before .before .before .before in
     let s = t .before .before .before .before in
-    as-line (then-laid (then-laid (then-laid (s .say .ensures) (t .say2 .ensures)) (u .say3 .ensures)) (c .before .put .ensures))
+    ended
+    (then-laid (then-laid (s .say .ensures) (t .say2 .ensures)) (u .say3 .ensures))
+    (c .before .put .ensures)
+    (put-requires (c .before .before) (c .before .put .lifetimes))
 
 pub entry-line-spec : {M : Type 1} → statement M
 entry-line-spec =

@@ -3,7 +3,7 @@ use native.Mathlib.Omega.{arith}
 use borrow.Author.Needs.{needs}
 use Rattle.answer.specs.Text.{leastLine, least}
 use Rattle.answer.proofs.Digits.{said-few}
-use Rattle.answer.proofs.Laying.{then-laid, as-line, kept}
+use Rattle.answer.proofs.Laying.{ended, kept}
 use Rattle.answer.proofs.least_line.Statement.{statement}
 use Rattle.answer.proofs.least_line.Tie as tie
 
@@ -17,7 +17,7 @@ put-requires c κs =
 
 returns : tie.Need-returns
 unfolding leastLine
-returns c = as-line (then-laid (c .before .before .before .before .before .say .ensures) (c .before .put .ensures))
+returns c = ended (c .before .before .before .before .before .say .ensures) (c .before .put .ensures) (put-requires (c .before .before) (c .before .put .lifetimes))
 
 pub least-line-spec : {M : Type 1} → statement M
 least-line-spec =

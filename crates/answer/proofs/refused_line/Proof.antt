@@ -4,7 +4,7 @@ use native.Mathlib.Omega.{arith}
 use borrow.Author.Needs.{needs}
 use Rattle.answer.specs.Text.{refusedLine, said, refused, place}
 use Rattle.answer.proofs.Digits.{said-few}
-use Rattle.answer.proofs.Laying.{then-laid, as-line, laid-as, kept}
+use Rattle.answer.proofs.Laying.{then-laid, ended, laid-as, kept}
 use Rattle.answer.proofs.refused_line.Statement.{statement}
 use Rattle.answer.proofs.refused_line.Tie as tie
 
@@ -32,12 +32,12 @@ returns c =
     let t = c .before .before .before .before .before in
     let s = t .before .before .before .before in
     let p = s .before .before .before in
-    as-line
-    (then-laid
+    ended
     (then-laid
     (laid-as (ap (said refused) (p .before .number .ensures)) (s .say .ensures))
     (laid-as (ap (said place) (p .place .ensures)) (t .say2 .ensures)))
-    (c .before .put .ensures))
+    (c .before .put .ensures)
+    (put-requires (c .before .before) (c .before .put .lifetimes))
 
 pub refused-line-spec : {M : Type 1} → statement M
 refused-line-spec =
