@@ -12,7 +12,8 @@ use Rattle.net.specs.Figures.{mostPlaces}
 use Rattle.net.specs.Counted.{unlimited, Within}
 use Rattle.net_file.specs.declared.Taken.{Taken}
 use Rattle.net_file.specs.declared.Taken.the-variants.{Node as OneNode, End as Last}
-use Rattle.net_file.specs.NetFile.{takenAt, follow, fieldsFrom, nodesOf, columnsOf, laidOver, blank, listed}
+use Rattle.net_file.specs.NetFile.{takenAt, follow, fieldsFrom, nodesOf, columnsOf, laidOver}
+use Rattle.net_file.specs.Own.{blank, listed}
 
 -- five columns as long as five others
 pub record AsLong (a b : Net) : Type 0 where

@@ -28,7 +28,8 @@ use Rattle.net.proofs.Judging.{tallied-start, tallied-after}
 use Rattle.net_file.specs.declared.Taken.{Taken}
 use Rattle.net_file.specs.declared.Taken.the-variants.{Node as OneNode, End as Last, Refused as Neither}
 use Rattle.net_file.specs.declared.NetRead.the-variants.{Read, Refused as NotRead}
-use Rattle.net_file.specs.NetFile.{takenAt, Fields, nodeAt, endAt, wrong, follow, fieldsFrom, nodesOf, source, fieldsJudged, netWith, fieldsOf, netFrom, tells}
+use Rattle.net_file.specs.NetFile.{takenAt, Fields, nodeAt, endAt, wrong, follow, fieldsFrom, nodesOf, source, fieldsJudged, netWith, fieldsOf, netFrom}
+use Rattle.net_file.specs.Own.{tells}
 use Rattle.net_file.proofs.Nodes.{node-is, places-are, Heads, heads, none-left}
 
 -- ---- one node

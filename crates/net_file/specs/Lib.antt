@@ -1,1 +1,2 @@
 pub mod NetFile
+pub mod Own

@@ -1,9 +1,9 @@
 -- Document 01, "Files": "A net file is one 01, then 02 and 03 fields in node order, then 7F". What a file says, and the bytes of a net.
-use Prim.Native.Nat.{ℕ, zero, suc, _+_, _-_, _≤_, min}
+use Prim.Native.Nat.{ℕ, zero, suc, _+_, _-_, min}
 use mathlib.Core.Path.{_≡_}
 use mathlib.Core.Bool.{Bool, true}
 use mathlib.Core.List.{List, [], _∷_, _++_, map}
-use lib.ListN.{length, take, replicate}
+use lib.ListN.{length, take}
 use lib.Seq.{sets}
 use lib.Dec.{eqb, ltb, leb}
 use Rattle.net.specs.declared.Limits.{Limits}
@@ -16,7 +16,6 @@ use Rattle.net.specs.Figures.{mostPlaces}
 use Rattle.net.specs.Choose.{pick}
 use Rattle.net.specs.Refusal.{numberOf, placeOf}
 use Rattle.net.specs.Net.{Net, net, places, node}
-use Rattle.net.specs.Counted.{unlimited}
 use Rattle.net.specs.Judge.{unless, thenJudge, limitsInRange, nodeJudged, childed, judged}
 use Rattle.field.specs.declared.Value.{Value}
 use Rattle.field.specs.declared.Value.the-variants.{Limits as LimitsField, Branch, Sink, Count, Entry, End}
@@ -147,10 +146,6 @@ room lent = min (length (lent .parents)) (min (length (lent .wires)) (min (lengt
 abbrev pub laidOver : Net → ℕ → Net → Net
 laidOver lent i n = net (lent .limits) (sets (lent .parents) i (n .parents)) (sets (lent .wires) i (n .wires)) (sets (lent .kinds) i (n .kinds)) (sets (lent .pins) i (n .pins)) (sets (lent .polarities) i (n .polarities))
 
-abbrev pub tells : Outcome → NetRead
-tells (read n) = Read (n .limits) (places n)
-tells (refused r) = NotRead r
-
 abbrev pub answered : ℕ → Outcome → NetRead
 answered most (read n) = pick (ltb most (places n)) (NotRead (NoRoom (places n))) (Read (n .limits) (places n))
 answered most (refused r) = NotRead r
@@ -162,28 +157,6 @@ filled lent (refused r) = lent
 pub record ReadNet (s : List ℕ) (lent left : Net) (r : NetRead) : Type 0 where
   pub answer : r ≡ answered (room lent) (netOf s)
   pub columns : left ≡ filled lent (netOf s)
-
--- k nodes from node i on
-unfoldable pub listed : (ℕ → Node) → ℕ → ℕ → List Node
-listed nodes zero i = []
-listed nodes (suc k) i = nodes i ∷ listed nodes k (suc i)
-
--- the reader's own columns before it reads
-abbrev pub blank : Net
-blank = net unlimited (replicate mostPlaces 0) (replicate mostPlaces 0) (replicate mostPlaces 0) (replicate mostPlaces 0) (replicate mostPlaces 0)
-
--- each column has n places or more
-pub record Room (n : ℕ) (c : Net) : Type 0 where
-  pub parents : n ≤ length (c .parents)
-  pub wires : n ≤ length (c .wires)
-  pub kinds : n ≤ length (c .kinds)
-  pub pins : n ≤ length (c .pins)
-  pub polarities : n ≤ length (c .polarities)
-
--- what the judge of a file tells, and what it leaves in the reader's own columns where the file is sound: the nodes, from place 1 on
-pub record JudgedFile (s : List ℕ) (o : Outcome) (left : Net) (r : NetRead) : Type 0 where
-  pub told : r ≡ tells o
-  pub kept : (l : Limits) (m : ℕ) → r ≡ Read l m → left ≡ laidOver blank 1 (columnsOf unlimited (nodesOf (fieldsOf s)))
 
 -- the first m places of some columns, with limits: the net that a caller holds who lent longer ones
 abbrev pub firstPlaces : ℕ → Limits → Net → Net

@@ -3,7 +3,8 @@ use denote.Ref.{now}
 use mathlib.Core.Path.{sym, ap, _∙_}
 use borrow.Author.Needs.{needs}
 use Rattle.net_file.specs.declared.Front.{Front}
-use Rattle.net_file.specs.NetFile.{fromFront, netOf, tells}
+use Rattle.net_file.specs.NetFile.{fromFront, netOf}
+use Rattle.net_file.specs.Own.{tells}
 use Rattle.net_file.proofs.Reading.{refused-file, file-judged}
 use Rattle.net_file.proofs.judge_file.Statement.{statement}
 use Rattle.net_file.proofs.judge_file.Tie as tie
