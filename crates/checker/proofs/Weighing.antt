@@ -27,7 +27,7 @@ use Rattle.load.proofs.Wire.{driven-length}
 use Rattle.checker.specs.declared.Verdict.{Verdict}
 use Rattle.checker.specs.declared.Listed.{Listed}
 use Rattle.checker.specs.Stands.{stood, begun, Stood, HasWires}
-use Rattle.checker.specs.Verdict.{verdictOf, weighed, verdict}
+use Rattle.checker.specs.Verdict.{verdictOf, settled, weighed, verdict}
 use Rattle.checker.specs.Listing.{ListedIs}
 use Rattle.checker.proofs.CheckedIsLegal.{placed-order}
 use Rattle.checker.proofs.Walks.{then-assoc, within-both}
@@ -75,16 +75,19 @@ module _ {n : Net} {vs os first : List ℕ} (p : Placed n vs os first) (a : Judg
   pub loads-over : (r : Refusal) → a ≡ Refused r → Verdict.Refused r ≡ weighed n vs os
   loads-over r e = sym (parts ∙ rw e)
 
-  module _ (sa : a ≡ Sound) (x : ℕ) (ex : x ≡ loadBelow n (offsetsOn (entries vs os)) 0) where
-    pub source-over : n .limits .limit < x → Verdict.Refused (Overloaded (length vs)) ≡ weighed n vs os
-    source-over l = sym (parts ∙ rw (sa, ← ex, lt-leb x (n .limits .limit) l))
+  pub loads-within : a ≡ Sound → settled n vs os ≡ weighed n vs os
+  loads-within e = sym (parts ∙ rw e)
 
-    module _ (l : x ≤ n .limits .limit) (b : Judged) (eb : b ≡ oneSense n (offsetsOn (entries vs os))) where
-      pub senses-over : (r : Refusal) → b ≡ Refused r → Verdict.Refused r ≡ weighed n vs os
-      senses-over r e = sym (parts ∙ rw (sa, ← ex, le-leb x (n .limits .limit) l, ← eb, e))
+module _ (n : Net) (vs os : List ℕ) (x : ℕ) (ex : x ≡ loadBelow n (offsetsOn (entries vs os)) 0) where
+  pub source-over : n .limits .limit < x → Verdict.Refused (Overloaded (length vs)) ≡ settled n vs os
+  source-over l = rw (← ex, lt-leb x (n .limits .limit) l)
 
-      pub all-legal : b ≡ Sound → Verdict.Legal (length vs) x ≡ weighed n vs os
-      all-legal e = sym (parts ∙ rw (sa, ← ex, le-leb x (n .limits .limit) l, ← eb, e))
+  module _ (l : x ≤ n .limits .limit) (b : Judged) (eb : b ≡ oneSense n (offsetsOn (entries vs os))) where
+    pub senses-over : (r : Refusal) → b ≡ Refused r → Verdict.Refused r ≡ settled n vs os
+    senses-over r e = rw (← ex, le-leb x (n .limits .limit) l, ← eb, e)
+
+    pub all-legal : b ≡ Sound → Verdict.Legal (length vs) x ≡ settled n vs os
+    all-legal e = rw (← ex, le-leb x (n .limits .limit) l, ← eb, e)
 
 -- ---- the whole
 module _ (n : Net) (vs os : List ℕ) (b : Judged) (eb : b ≡ begun n vs os) where

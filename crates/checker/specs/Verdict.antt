@@ -3,13 +3,15 @@ use Prim.Native.Nat.{ℕ}
 use mathlib.Core.Path.{_≡_}
 use mathlib.Core.Bool.{true}
 use mathlib.Core.List.{List}
+use lib.Dec.{leb}
 use lib.ListN.{length}
 use Rattle.net.specs.declared.Judged.{Judged}
 use Rattle.net.specs.declared.Judged.the-variants.{Sound, Refused}
+use Rattle.net.specs.declared.Refusal.the-variants.{Overloaded}
 use Rattle.net.specs.Net.{Net}
 use Rattle.net.specs.Load.{entries, offsetsOn, sourceDrives, drivers}
 use Rattle.net.specs.Legal.{Legal}
-use Rattle.net.specs.Judge.{thenJudge, judged}
+use Rattle.net.specs.Judge.{unless, thenJudge, judged}
 use Rattle.net.specs.Checked.{placementFits, withinLimit, oneSense, checked}
 use Rattle.checker.specs.declared.Verdict.{Verdict}
 use Rattle.checker.specs.declared.Verdict.the-variants as verdicts
@@ -17,6 +19,14 @@ use Rattle.checker.specs.declared.Verdict.the-variants as verdicts
 abbrev pub verdictOf : Judged → ℕ → ℕ → Verdict
 verdictOf Sound count source = verdicts.Legal count source
 verdictOf (Refused r) count source = verdicts.Refused r
+
+-- 11 for the source, and then 12
+abbrev pub settled : Net → List ℕ → List ℕ → Verdict
+settled n vs os =
+    verdictOf
+    (thenJudge (unless (leb (sourceDrives n (offsetsOn (entries vs os))) (n .limits .limit)) (Overloaded (length vs))) (oneSense n (offsetsOn (entries vs os))))
+    (length vs)
+    (sourceDrives n (offsetsOn (entries vs os)))
 
 -- 11 and then 12, for a placement that stands on a sound net
 abbrev pub weighed : Net → List ℕ → List ℕ → Verdict

@@ -14,7 +14,7 @@ ghost use Rattle.net.specs.Load.{driven};
 ghost use Rattle.net.specs.Sound.{SoundNet};
 ghost use Rattle.net.specs.Checked.{onItsWire, notLower, withinLimit, firstSink, oneSense};
 ghost use Rattle.load.specs.Asks.{offsetsAt, Placed};
-ghost use Rattle.checker.specs.Verdict.{weighed, verdict};
+ghost use Rattle.checker.specs.Verdict.{settled, weighed, verdict};
 ghost use Rattle.checker.specs.Listing.{ListedIs};
 ghost use Rattle.checker.specs.Stands.{stood, begun, Stood, HasWires};
 ghost use Rattle.checker.specs.Parity.{Turned};
@@ -237,6 +237,98 @@ fn one_sense(
     Judged::Sound
 }
 
+// 12, over a table of the inverters down to each node.
+fn judge_senses(
+    limits: Limits,
+    parent: &[u16],
+    wire: &[u32],
+    kind: &[u8],
+    pin: &[u32],
+    polarity: &[u8],
+    wires: &[u16],
+    offsets: &[u32],
+    first: &[usize; load::FIRSTS],
+) -> Judged
+    requires { ⌜ Placed (netAt limits parent wire kind pin polarity) (now wires) (now offsets) (now first) ⌝ }
+    ensures { λ r. ⌜ r ≡ oneSense (netAt limits (parent .entry) (wire .entry) (kind .entry) (pin .entry) (polarity .entry)) (offsetsAt (wires .entry) (offsets .entry)) ⌝ }
+{
+    let mut odd = [0u8; PLACES];
+    turns(
+        limits,
+        parent,
+        wire,
+        kind,
+        pin,
+        polarity,
+        wires,
+        offsets,
+        first,
+        &mut odd,
+    );
+    one_sense(
+        limits,
+        parent,
+        wire,
+        kind,
+        pin,
+        polarity,
+        wires,
+        offsets,
+        &odd,
+    )
+}
+
+// 11 for the source, and then 12.
+fn settle(
+    limits: Limits,
+    parent: &[u16],
+    wire: &[u32],
+    kind: &[u8],
+    pin: &[u32],
+    polarity: &[u8],
+    wires: &[u16],
+    offsets: &[u32],
+    first: &[usize; load::FIRSTS],
+) -> Verdict
+    requires { ⌜ Placed (netAt limits parent wire kind pin polarity) (now wires) (now offsets) (now first) ⌝ }
+    ensures { λ r. ⌜ r ≡ settled (netAt limits (parent .entry) (wire .entry) (kind .entry) (pin .entry) (polarity .entry)) (now (wires .entry)) (now (offsets .entry)) ⌝ }
+{
+    let source = load::load_below(
+        limits,
+        parent,
+        wire,
+        kind,
+        pin,
+        polarity,
+        wires,
+        offsets,
+        first,
+        0,
+    );
+    let most = limits.limit as u64;
+    if most < source {
+        return Verdict::Refused(Refusal::Overloaded(wires.len()));
+    }
+    let senses = judge_senses(
+        limits,
+        parent,
+        wire,
+        kind,
+        pin,
+        polarity,
+        wires,
+        offsets,
+        first,
+    );
+    if let Judged::Refused(r) = senses {
+        return Verdict::Refused(r);
+    }
+    Verdict::Legal {
+        count: wires.len(),
+        source: source,
+    }
+}
+
 // 11 and 12 for a placement that stands on a sound net.
 fn weigh(
     limits: Limits,
@@ -267,7 +359,7 @@ fn weigh(
     if let Judged::Refused(r) = loads {
         return Verdict::Refused(r);
     }
-    let source = load::load_below(
+    settle(
         limits,
         parent,
         wire,
@@ -277,43 +369,7 @@ fn weigh(
         wires,
         offsets,
         &first,
-        0,
-    );
-    let most = limits.limit as u64;
-    if most < source {
-        return Verdict::Refused(Refusal::Overloaded(wires.len()));
-    }
-    let mut odd = [0u8; PLACES];
-    turns(
-        limits,
-        parent,
-        wire,
-        kind,
-        pin,
-        polarity,
-        wires,
-        offsets,
-        &first,
-        &mut odd,
-    );
-    let senses = one_sense(
-        limits,
-        parent,
-        wire,
-        kind,
-        pin,
-        polarity,
-        wires,
-        offsets,
-        &odd,
-    );
-    if let Judged::Refused(r) = senses {
-        return Verdict::Refused(r);
-    }
-    Verdict::Legal {
-        count: wires.len(),
-        source: source,
-    }
+    )
 }
 
 // Judges a placement: the net's refusals, 7, 10, 11, 12, or its count and the source's load.
