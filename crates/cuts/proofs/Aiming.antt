@@ -14,6 +14,7 @@ use Rattle.rows.specs.Rows.{loadAt, accOf, FirstFit}
 use Rattle.rows.proofs.Closing.{closed, close-none}
 use Rattle.cuts.specs.Choice.{f3, Under, Met, Meets, Aim, Budgeted, Budget}
 use Rattle.cuts.proofs.Attaining.{wire-met}
+use Rattle.cuts.proofs.Choosing.{buf-inv}
 
 -- ---- the target
 module _ (τ : Cell) (κ : Kind) (m a b : ℕ) where
@@ -36,13 +37,8 @@ module _ (τ : Cell) (κ : Kind) (m a b : ℕ) where
   aim-more (suc zero) k h g l lo hi q = absurd (g refl)
   aim-more (suc (suc s)) k h g l lo hi q = record { which = inl (refl, refl); count = omega arith; turns = q; few = hi; plain = λ z. absurd (omega arith); topped = λ z. omega arith }
 
-isInv : Kind → ℕ
-isInv buf = 0
-isInv inv = 1
-
 pub not-inv : (k : ℕ) → k ≡ 0 → kindOf k ≡ inv → ⊥
-unfolding isInv
-not-inv zero e q = let z : 0 ≡ isInv inv = ap isInv q in omega arith
+not-inv zero e q = buf-inv q
 not-inv (suc k) e q = omega arith
 
 -- the target can be met
@@ -91,15 +87,15 @@ module _ (τ : Cell) (t : List ℕ) (at last e : ℕ) (f : FirstFit t at last τ
 
 -- ---- a wire's parity
 pub turn-same : (τ : Cell) (κ : Kind) (p w h r more k : ℕ) → p ≤ 1 → r ≡ req τ κ 0 (w + h) → (more ≡ 1 → κ ≡ buf) → more ≤ 1 → (κ ≡ inv → k % 2 ≡ 0) → turn κ p (r + (more + k)) ≡ p
-unfolding req isInv
+unfolding req
 turn-same τ buf p w h r more k l e f o g = refl
 turn-same τ inv p w h r zero k l e f o g = let z : k % 2 ≡ 0 = g refl in omega arith
-turn-same τ inv p w h r (suc zero) k l e f o g = let z : 1 ≡ isInv buf = ap isInv (f refl) in absurd (omega arith)
+turn-same τ inv p w h r (suc zero) k l e f o g = absurd (buf-inv (sym (f refl)))
 turn-same τ inv p w h r (suc (suc more)) k l e f o g = absurd (omega arith)
 
 pub turn-other : (τ : Cell) (κ : Kind) (p w h r more k : ℕ) → κ ≡ inv → p ≤ 1 → r ≡ req τ κ 1 (w + h) → (more ≡ 1 → κ ≡ buf) → more ≤ 1 → (κ ≡ inv → k % 2 ≡ 0) → turn κ p (r + (more + k)) ≡ 1 - p
-unfolding req isInv
-turn-other τ buf p w h r more k i l e f o g = let z : 0 ≡ isInv inv = ap isInv i in absurd (omega arith)
+unfolding req
+turn-other τ buf p w h r more k i l e f o g = absurd (buf-inv i)
 turn-other τ inv p w h r zero k i l e f o g = let z : k % 2 ≡ 0 = g refl in omega arith
-turn-other τ inv p w h r (suc zero) k i l e f o g = let z : 1 ≡ isInv buf = ap isInv (f refl) in absurd (omega arith)
+turn-other τ inv p w h r (suc zero) k i l e f o g = absurd (buf-inv (sym (f refl)))
 turn-other τ inv p w h r (suc (suc more)) k i l e f o g = absurd (omega arith)

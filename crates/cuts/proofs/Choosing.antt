@@ -43,14 +43,12 @@ module _ (g : ℕ → ℕ) (a b c : ℕ) where
       record { few = l; le = omega arith; fits = three e s _ _ _ l refl refl refl (rw (p, r) at q) }
 
 -- ---- one candidate
-isBuf : Kind → ℕ
-isBuf buf = 0
-isBuf inv = 1
+pub buf-inv : buf ≡ inv → ⊥
+buf-inv e = let z : _≡_ {A = ℕ} 0 1 = cc in omega arith
 
 kind-inv : (k : ℕ) → (k ≡ 0 → ⊥) → kindOf k ≡ buf → ⊥
-unfolding isBuf
 kind-inv zero h e = h refl
-kind-inv (suc k) h e = let z : 1 ≡ isBuf buf = ap isBuf e in omega arith
+kind-inv (suc k) h e = buf-inv (sym e)
 
 kind-buf : (k : ℕ) → k ≡ 0 → kindOf k ≡ buf
 kind-buf zero e = refl

@@ -33,7 +33,7 @@ unfolding onWire
 on-length i [] = refl
 on-length i (o ∷ os) = ap suc (on-length i os)
 
-column-length : (f : Entry → ℕ) (p : List Entry) → length (map f p) ≡ length p
+pub column-length : (f : Entry → ℕ) (p : List Entry) → length (map f p) ≡ length p
 column-length f [] = refl
 column-length f (e ∷ p) = ap suc (column-length f p)
 

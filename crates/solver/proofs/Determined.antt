@@ -13,6 +13,7 @@ use Rattle.net.specs.Net.{Net}
 use Rattle.net.specs.Judge.{judged}
 use Rattle.net.specs.Legal.{Legal, Least, NoneLegal}
 use Rattle.frontier.proofs.LeastCount.{one-least}
+use Rattle.entries.proofs.Listing.{column-length}
 use Rattle.entries.specs.Columns.{wireColumn, offsetColumn}
 use Rattle.solver.specs.declared.Solved.{Solved}
 use Rattle.solver.specs.declared.Solved.the-variants.{Placed, Refused}
@@ -30,10 +31,6 @@ pub record Alike (r r′ : Solved) (ws os ws′ os′ : List ℕ) : Type 0 where
 sets-beyond : (l : List ℕ) (i : ℕ) (vs : List ℕ) (j : ℕ) → i + length vs ≤ j → getD (sets l i vs) j 0 ≡ getD l j 0
 sets-beyond l i [] j h = refl
 sets-beyond l i (v ∷ vs) j h = sets-beyond (set l i v) (suc i) vs j (omega arith) ∙ getD-set-other l i j v 0 (λ e. omega arith)
-
-column-length : (f : Entry → ℕ) (p : List Entry) → length (mathlib.Core.List.map f p) ≡ length p
-column-length f [] = refl
-column-length f (e ∷ p) = ap suc (column-length f p)
 
 -- what an answer leaves of one column, beyond the count
 pub record Left (k : ℕ) (l l′ : List ℕ) : Type 0 where

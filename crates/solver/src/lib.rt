@@ -28,7 +28,7 @@ pub struct Source {
 }
 
 // The polarity with the lower count, plus on a tie.
-pub fn lighter(a: Side, b: Side) -> usize
+fn lighter(a: Side, b: Side) -> usize
     ensures { λ p. ⌜ Picks (st a) (st b) p ⌝ }
 {
     let Side::Has(m, _, _) = a else {
@@ -44,7 +44,7 @@ pub fn lighter(a: Side, b: Side) -> usize
 }
 
 // The source's state out of the slot k of its wires.
-pub fn at_source(
+fn at_source(
     c: Cell,
     rows: &[u32; 34850],
     plus: &[u64; 1025],
@@ -68,15 +68,15 @@ pub fn at_source(
     }
 }
 
-// Where there is room for n: the shorter of two columns, and at most 4,096.
-pub fn room(a: usize, b: usize) -> u64
+// The room: the shorter of two columns, and at most 4,096.
+fn room(a: usize, b: usize) -> u64
     ensures { λ r. ⌜ r ≡ min (min a b) mostEntries ⌝ }
 {
     states::least(states::least(a as u64, b as u64), 4096)
 }
 
 // A placement with the least count m, from the source's polarity p and surplus e.
-pub fn place(
+fn place(
     c: Cell,
     parent: &[u16],
     wire: &[u32],
@@ -150,7 +150,7 @@ pub fn place(
 }
 
 // From the filled tables on: 8, then 9, then the placement.
-pub fn answer(
+fn answer(
     c: Cell,
     parent: &[u16],
     wire: &[u32],
@@ -209,7 +209,7 @@ pub fn answer(
 }
 
 // A net that is sound.
-pub fn solve_sound(
+fn solve_sound(
     c: Cell,
     parent: &[u16],
     wire: &[u32],

@@ -42,6 +42,17 @@ pub small-up : (j k : ℕ) (s : State) → j ≤ k → SmallS j s → SmallS k s
 small-up j k lost l x = tt
 small-up j k (has m p q) l x = (omega arith, x .1, x .2)
 
+-- ---- enough of them, and what is handed up then
+module _ (τ : Cell) (eq : τ.cu ≡ τ.cb + τ.D) (pos : 1 ≤ τ.D) where
+  pub req-ok : (κ : Kind) (π v : ℕ) → v ≤ τ.cu + req τ κ π v * τ.D
+  unfolding req
+  req-ok buf π v = ceil-ok τ eq pos v
+  req-ok inv π v = omega (arith, ceil-ok τ eq pos v)
+
+  pub T-fits : (v r : ℕ) → v ≤ τ.cu + r * τ.D → T τ v r ≤ τ.cu
+  T-fits v zero h = omega arith
+  T-fits v (suc r) h = omega arith
+
 module _ (τ : Cell) (eq : τ.cu ≡ τ.cb + τ.D) (pos : 1 ≤ τ.D) (small : τ.cu ≤ 1000000) where
   -- ---- how many on a wire
   ceil-mul : (v : ℕ) → ceil τ v * τ.D ≤ (v - τ.cu) + (τ.D - 1)
@@ -66,15 +77,6 @@ module _ (τ : Cell) (eq : τ.cu ≡ τ.cb + τ.D) (pos : 1 ≤ τ.D) (small : �
   req-few buf π v h = omega (arith, ceil-few v h)
   req-few inv π v h = omega (arith, ceil-few v h)
 
-  req-ok : (κ : Kind) (π v : ℕ) → v ≤ τ.cu + req τ κ π v * τ.D
-  unfolding req
-  req-ok buf π v = ceil-ok τ eq pos v
-  req-ok inv π v = omega (arith, ceil-ok τ eq pos v)
-
-  T-fits : (v r : ℕ) → v ≤ τ.cu + r * τ.D → T τ v r ≤ τ.cu
-  T-fits v zero h = omega arith
-  T-fits v (suc r) h = omega arith
-
   second-le : (κ : Kind) (a : ℕ) → second τ κ a ≤ a
   unfolding second
   second-le buf a = omega arith
@@ -83,7 +85,7 @@ module _ (τ : Cell) (eq : τ.cu ≡ τ.cb + τ.D) (pos : 1 ≤ τ.D) (small : �
   pub cand-small : (κ : Kind) (π n v : ℕ) → v ≤ 11000000 → SmallS (n + 11000001) (cand τ κ π n v)
   unfolding cand
   cand-small κ π n v h =
-      let f : T τ v (req τ κ π v) ≤ τ.cu = T-fits v (req τ κ π v) (req-ok κ π v) in
+      let f : T τ v (req τ κ π v) ≤ τ.cu = T-fits τ eq pos v (req τ κ π v) (req-ok τ eq pos κ π v) in
       (omega (arith, req-few κ π v h), omega arith, omega (arith, second-le κ (T τ v (req τ κ π v))))
 
   pub via-small : (κ : Kind) (π w k : ℕ) (s : State) → w ≤ 10000000 → SmallS k s → SmallS (k + 11000002) (via τ κ π w s)

@@ -24,11 +24,8 @@ use Rattle.cuts.specs.Choice.{f3, Shared, Under, Met, Aim, Aimed, Budgeted, Bud
 use Rattle.cuts.specs.Offsets.{steps, offsets}
 use Rattle.cuts.proofs.Aiming.{turn-same, turn-other}
 use Rattle.walk.specs.Walk.{Within, Alive, WireOk, Parts, Decided}
+use Rattle.walk.proofs.Ending.{within-budget}
 use Rattle.walk.proofs.Placing.{stacked, stack-length, offsets-are, Stands, stands}
-
-within-budget : (y : Acc) (e n h c l : ℕ) → Budgeted y e n h → Within y c l e → (c ≤ n) × (l ≤ h)
-within-budget fail e n h c l b w = absurd w
-within-budget (all m g) e n h c l b w = (omega arith, omega arith)
 
 -- a sink's state is its pin, at its polarity
 leaf-under : (τ : Cell) (c s q x n h : ℕ) → Under (leaf τ c s q) x n h → (q ≡ s) × (h ≡ c)

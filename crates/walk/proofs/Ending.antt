@@ -26,7 +26,7 @@ done-end τ n t side left i v h = subst (DoneF τ t (side v) (left v)) (sym (han
     nothing : (p e : ℕ) → DoneF τ t p e none
     nothing p e = (tt, none-within τ p e)
 
-within-budget : (y : Acc) (e n h c l : ℕ) → Budgeted y e n h → Within y c l e → (c ≤ n) × (l ≤ h)
+pub within-budget : (y : Acc) (e n h c l : ℕ) → Budgeted y e n h → Within y c l e → (c ≤ n) × (l ≤ h)
 within-budget fail e n h c l b w = absurd w
 within-budget (all m g) e n h c l b w = (omega arith, omega arith)
 

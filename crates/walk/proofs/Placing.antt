@@ -10,6 +10,7 @@ use Rattle.frontier.specs.Plan.{GoodW, topW}
 use Rattle.frontier.specs.Frontier.{State, lost, has, T, req}
 use Rattle.frontier.proofs.Lower.{Tidy, T-mono, ceil-ok}
 use Rattle.frontier.proofs.Attained.{spread, spread-length, spread-good, spread-top, add-good, add-top}
+use Rattle.states.proofs.Leaves.{req-ok, T-fits}
 use Rattle.cuts.specs.Choice.{Under, Loads, One, Met}
 use Rattle.cuts.specs.Offsets.{steps, offsets}
 
@@ -57,15 +58,6 @@ module _ (τ : Cell) (eq : τ.cu ≡ τ.cb + τ.D) (pos : 1 ≤ τ.D) where
   stack-topped w b zero os h = absurd (omega arith)
   stack-topped w b (suc k) os h = stack-top w b k (os ++ (w ∷ [])) (add-top τ eq pos w 0 b os)
 
-  T-fits : (v r : ℕ) → v ≤ τ.cu + r * τ.D → T τ v r ≤ τ.cu
-  T-fits v zero h = omega arith
-  T-fits v (suc r) h = omega arith
-
-  req-ok : (κ : Kind) (π v : ℕ) → v ≤ τ.cu + req τ κ π v * τ.D
-  unfolding req
-  req-ok buf π v = ceil-ok τ eq pos v
-  req-ok inv π v = omega (arith, ceil-ok τ eq pos v)
-
   -- by spacing alone
   plain-top : (w h r : ℕ) → h ≤ τ.cu → topW τ w 0 h (spread τ w 0 h r) ≤ T τ (w + h) r
   plain-top w h r hc = le-trans (spread-top τ eq pos w 0 h r (omega arith) hc) (T-mono τ eq pos ((w - 0) + h) (w + h) r (T τ (w + h) r) (omega arith) (le-refl (T τ (w + h) r)))
@@ -89,8 +81,8 @@ module _ (τ : Cell) (eq : τ.cu ≡ τ.cb + τ.D) (pos : 1 ≤ τ.D) where
   pub stands : (κ : Kind) (π w : ℕ) (s : State) (m l x h r more k : ℕ) → Tidy τ s → (o : Met τ κ π w s m l x h r more) → Stands κ π w m l h (o .n) (stacked τ w h r (more + k)) k
   stands κ π w s m l x h r more k t o =
       let hc : h ≤ τ.cu = under-fits s x (o .n) h t (o .under) in
-      let v : w + h ≤ τ.cu + r * τ.D = subst (λ (y : ℕ). w + h ≤ τ.cu + y * τ.D) (sym (o .by .is)) (req-ok κ π (w + h)) in
-      let up : topW τ w 0 h (spread τ w 0 h r) ≤ τ.cu = le-trans (plain-top w h r hc) (T-fits (w + h) r v) in
+      let v : w + h ≤ τ.cu + r * τ.D = subst (λ (y : ℕ). w + h ≤ τ.cu + y * τ.D) (sym (o .by .is)) (req-ok τ eq pos κ π (w + h)) in
+      let up : topW τ w 0 h (spread τ w 0 h r) ≤ τ.cu = le-trans (plain-top w h r hc) (T-fits τ eq pos (w + h) r v) in
       record {
         good = stack-good w h (more + k) (spread τ w 0 h r) (spread-good τ eq pos w 0 h r (omega arith) hc) up;
         count = omega (arith, stack-length (spread τ w 0 h r) (more + k) w, spread-length τ eq pos w 0 h r, o .by .count);
