@@ -10,6 +10,7 @@ use borrow.Author.Needs.{needs}
 use Rattle.net.specs.Net.{Net, netAt}
 use Rattle.net.specs.Load.{entries, offsetsOn, driven, sourceDrives}
 use Rattle.checker.specs.declared.Listed.the-variants.{Driven}
+use Rattle.answer.specs.Text.{answerText}
 use Rattle.answer.proofs.Laying.{laid-as}
 use Rattle.mustorgyel.proofs.Showing.{shown, front-of}
 use Rattle.mustorgyel.proofs.Listing.{drives-listed, as-many-loads}
@@ -78,10 +79,10 @@ put-answer-requires c κs =
 returns-2 : tie.Need-returns-2
 returns-2 c =
     let k = c .before .before .before .before .before .before in
+    let f = first k in
     let a = c .before .before .put-answer .ensures in
-    let t = taken k in
-    let s = summed k in
-    shown (laid-as (cc) (a .0)) (omega (arith, a .1, first k .pre .0 .few, first k .pre .1))
+    let told = ap (λ (l : List ℕ). answerText (W f) (O f) l (k .listed .given .0 .1 .0)) (taken k) ∙ ap (answerText (W f) (O f) (loads f)) (summed k) in
+    shown (laid-as told (a .0)) (omega (arith, a .1, f .pre .0 .few, f .pre .1))
 
 pub tell-spec : {M : Type 1} → statement M
 tell-spec =
