@@ -114,14 +114,17 @@ static void do_rewrite(void)
     say_hex(written, size);
 }
 
-static void do_check(void)
+typedef struct ref_answer loads(const struct ref_net *net, const uint16_t *wire, size_t wires,
+                                const uint32_t *offset, size_t offsets,
+                                uint64_t *drives, uint64_t *source);
+
+static void do_loads(loads *loads)
 {
     static uint64_t drives[REF_ENTRIES];
     uint64_t source = 0;
     struct ref_net net = take_net();
     struct ref_placement p = take_placement();
-    struct ref_answer answer =
-        ref_check(&net, p.wire, p.entries, p.offset, p.entries, drives, &source);
+    struct ref_answer answer = loads(&net, p.wire, p.entries, p.offset, p.entries, drives, &source);
     if (answer.number != 0) {
         say(answer);
         return;
@@ -194,7 +197,9 @@ static void act(const char *word)
     else if (strcmp(word, "rewrite") == 0)
         do_rewrite();
     else if (strcmp(word, "check") == 0)
-        do_check();
+        do_loads(ref_check);
+    else if (strcmp(word, "drives") == 0)
+        do_loads(ref_list_drives);
     else if (strcmp(word, "files") == 0)
         do_files();
     else if (strcmp(word, "carry") == 0)

@@ -182,13 +182,23 @@ def ask_read(word, data):
     return f"{word} {hexed(data)}", make_damaged.answer(read, data)
 
 
-def ask_check(net, placement):
+def ask_loads(word, loads, net, placement):
     def act():
-        ref.check(net, placement)
-        drives, source = ref.judge_placement(net, placement)
+        drives, source = loads(net, placement)
         return " ".join(["count", str(len(drives)), "source", str(source), *map(str, drives)]), 0
-    question = f"check {hexed(ref.net_bytes(net))} {hexed(ref.placement_bytes(placement))}"
+    question = f"{word} {hexed(ref.net_bytes(net))} {hexed(ref.placement_bytes(placement))}"
     return question, attempt(act)[0]
+
+
+def ask_check(net, placement):
+    def checked(net, placement):
+        ref.check(net, placement)
+        return ref.judge_placement(net, placement)
+    return ask_loads("check", checked, net, placement)
+
+
+def ask_drives(net, placement):
+    return ask_loads("drives", ref.list_drives, net, placement)
 
 
 def ask_files(net_file, placement_file):
@@ -246,6 +256,7 @@ def random_questions(chance, number):
         for net in (small, large, light, light):
             placement = random_placement(chance, net)
             yield ask_check(net, placement)
+            yield ask_drives(net, placement)
             yield ask_carry(net, eased(chance, net), placement)
             yield from damaged_questions(chance, net, placement)
         yield ask_carry(light, broken_net(chance, light), placement)

@@ -2,11 +2,12 @@
 case $(uname -m) in
 x86_64)
     CC=${CC:-gcc} CFLAGS=${CFLAGS:--O2} RUN=${RUN:-}
-    RUSTFLAGS=${RUSTFLAGS:--O}
+    RUSTC=${RUSTC:-rustc} RUSTFLAGS=${RUSTFLAGS:--O}
     ;;
 *)
     CC=${CC:-x86_64-linux-gnu-gcc} CFLAGS=${CFLAGS:--O2 -static} RUN=${RUN:-qemu-x86_64}
+    RUSTC=${RUSTC:-/usr/bin/rustc}
     RUSTFLAGS=${RUSTFLAGS:--O --target x86_64-unknown-linux-gnu -C linker=x86_64-linux-gnu-gcc -C target-feature=+crt-static}
     ;;
 esac
-export CC CFLAGS RUN RUSTFLAGS PYTHONDONTWRITEBYTECODE=1
+export CC CFLAGS RUN RUSTC RUSTFLAGS PYTHONDONTWRITEBYTECODE=1

@@ -309,6 +309,14 @@ def check(net, placement):
     return len(drives), source
 
 
+def list_drives(net, placement):
+    """What each entry drives and the source's load, of any placement that stands: no 11, no 12."""
+    judge_net(net)
+    judge_placement_columns(placement)
+    judge_entries(net, placement)
+    return loads(net, placement)
+
+
 def legal(net, placement):
     """Is this list of entries legal on a judged net? Here no limit of 4,096 applies."""
     try:

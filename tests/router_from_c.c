@@ -1,6 +1,7 @@
 /* What a router does: this file knows the library by its header alone. */
 #include "../include/mustorgyel.h"
 
+#include <pthread.h>
 #include <stdio.h>
 #include <stdlib.h>
 #include <string.h>
@@ -29,6 +30,52 @@ static void expect(const char *what, uint32_t want, uint32_t have)
     exit(1);
 }
 
+/* ------------------------------------------------------------ the deepest net on a small stack */
+
+enum { WIRES = 1024, STACK = 512 * 1024 };
+
+static uint8_t chain[12 + 9 * (WIRES - 1) + 14 + 3];
+
+static uint8_t *put(uint8_t *to, const uint8_t *bytes, size_t length)
+{
+    memcpy(to, bytes, length);
+    return to + length;
+}
+
+/* 1,024 wires one below the other, a sink at the last. */
+static void make_chain(void)
+{
+    const uint8_t limits[12] = {0x01, 0, 9, 0, 0, 0, 10, 0, 0, 0, 2, 0};
+    const uint8_t end[3] = {0x7F, 0, 0};
+    uint8_t *to = put(chain, limits, sizeof limits);
+    for (unsigned node = 1; node <= WIRES; node++) {
+        const uint8_t high = (uint8_t)((node - 1) >> 8), low = (uint8_t)(node - 1);
+        const uint8_t branch[9] = {0x02, 0, 6, high, low, 0, 0, 0, 0};
+        const uint8_t sink[14] = {0x03, 0, 11, high, low, 0, 0, 0, 0, 0, 0, 0, 4, 0};
+        to = node < WIRES ? put(to, branch, sizeof branch) : put(to, sink, sizeof sink);
+    }
+    put(to, end, sizeof end);
+}
+
+static void *check_chain(void *answer)
+{
+    *(uint32_t *)answer = mustorgyel_check(chain, sizeof chain, none, sizeof none);
+    return NULL;
+}
+
+static uint32_t on_small_stack(void)
+{
+    uint32_t answer = 99;
+    pthread_attr_t small;
+    pthread_t thread;
+    make_chain();
+    if (pthread_attr_init(&small) != 0 || pthread_attr_setstacksize(&small, STACK) != 0
+        || pthread_create(&thread, &small, check_chain, &answer) != 0)
+        return 98;
+    pthread_join(thread, NULL);
+    return answer;
+}
+
 int main(void)
 {
     uint8_t one[17];
@@ -52,6 +99,7 @@ int main(void)
     expect("no net file", 1, mustorgyel_check(NULL, 0, none, 8));
     expect("no placement file", 1, mustorgyel_check(net, 29, NULL, 0));
     expect("neither", 1, mustorgyel_check(NULL, 0, NULL, 0));
+    expect("the deepest net on a stack of 512 kB", 0, on_small_stack());
     printf("the router's call from C: as document 01 says\n");
     return 0;
 }
