@@ -159,28 +159,25 @@ static void long_chain(struct ref_net *net, uint8_t type, uint32_t wire, uint32_
     net->pin[REF_NODES - 1] = pin;
 }
 
+struct largest { const char *what; uint32_t wire, pin, more; size_t room; struct ref_answer want; };
+
+static const struct largest chains[] = {
+    {"1,024 wires of 10,000,000", 10000000, 0, 0, REF_ENTRIES, {9, 10239999999}},
+    {"the same with pin 1", 10000000, 1, 0, REF_ENTRIES, {9, 10240000000}},
+    {"the same with pin C_U + 1", 10000000, 2, 0, REF_ENTRIES, {8, 0}},
+    {"1,024 wires of 4", 4, 1, 0, REF_ENTRIES, {0, 4096}},
+    {"1,024 wires of 4, room one short", 4, 1, 0, REF_ENTRIES - 1, {9, 4096}},
+    {"1,024 wires of 4, one unit more", 4, 1, 1, REF_ENTRIES, {9, 4097}},
+};
+
 static void try_largest(const struct calls *calls)
 {
     static struct ref_net net;
-    for (uint8_t type = 0; type < 2; type++) {
-        long_chain(&net, type, 10000000, 0);
-        holds(calls, "1,024 wires of 10,000,000", &net, REF_ENTRIES, REF_ENTRIES,
-              (struct ref_answer){9, 10239999999});
-        long_chain(&net, type, 10000000, 1);
-        holds(calls, "the same with pin 1", &net, REF_ENTRIES, REF_ENTRIES,
-              (struct ref_answer){9, 10240000000});
-        long_chain(&net, type, 10000000, 2);
-        holds(calls, "the same with pin C_U + 1", &net, REF_ENTRIES, REF_ENTRIES,
-              (struct ref_answer){8, 0});
-        long_chain(&net, type, 4, 1);
-        holds(calls, "1,024 wires of 4", &net, REF_ENTRIES, REF_ENTRIES,
-              (struct ref_answer){0, 4096});
-        holds(calls, "1,024 wires of 4, room one short", &net, REF_ENTRIES, REF_ENTRIES - 1,
-              (struct ref_answer){9, 4096});
-        long_chain(&net, type, 4, 1);
-        net.wire[7] = 5;
-        holds(calls, "one unit more than 4,096 entries do", &net, REF_ENTRIES, REF_ENTRIES,
-              (struct ref_answer){9, 4097});
+    for (size_t i = 0; i < 2 * sizeof chains / sizeof *chains; i++) {
+        const struct largest *chain = &chains[i / 2];
+        long_chain(&net, i % 2, chain->wire, chain->pin);
+        net.wire[7] += chain->more;
+        holds(calls, chain->what, &net, chain->room, REF_ENTRIES, chain->want);
     }
 }
 

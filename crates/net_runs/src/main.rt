@@ -46,11 +46,7 @@ fn tell(judged: net::Judged) {
             io::write_all(1, b"sound\n");
         }
         net::Judged::Refused(r) => {
-            io::write_all(1, b"refused ");
-            io::print_decimal(1, net::number(r) as u64);
-            io::write_all(1, b" place ");
-            io::print_decimal(1, net::place(r));
-            io::write_all(1, b"\n");
+            stored_cases::print_refusal(r);
         }
     }
 }
