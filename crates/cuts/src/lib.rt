@@ -6,7 +6,7 @@ ghost use Prim.Native.Nat.{ℕ, _+_, _-_, _*_, _<_, _≤_, min};
 ghost use lib.ListN.{length, getD};
 ghost use Rattle.frontier.specs.Cell.{kindOf};
 ghost use Rattle.states.specs.States.{modelOf, st, CellOk, Small};
-ghost use Rattle.rows.specs.Rows.{loadAt};
+ghost use Rattle.rows.specs.Rows.{loadAt, HasSlot};
 ghost use Rattle.cuts.specs.Choice.{f3, Shared, OneOk, PickOk, Meets, TurnOk, Aim, Aimed, Budget, CutOk};
 
 // 1 where y is less.
@@ -33,8 +33,8 @@ pub fn least_of(x: u64, y: u64, z: u64) -> usize
 }
 
 // How much of the surplus e a wire takes that hands up a, b or f; the wires after it have the row at `at`.
-pub fn share(rows: &[u32; 34850], at: usize, last: usize, e: usize, a: u64, b: u64, f: u64) -> usize
-    requires { ⌜ (length (now rows) ≡ 34850) × (at + last < 34850) ⌝ }
+pub fn share(rows: &[u32], at: usize, last: usize, e: usize, a: u64, b: u64, f: u64) -> usize
+    requires { ⌜ at + last < length (now rows) ⌝ }
     requires { ⌜ (a ≤ 1000000) × (b ≤ 1000000) × (f ≤ 1000000) ⌝ }
     requires { ⌜ ((k : ℕ) → loadAt (now rows) at last k ≤ 2000000000) ⌝ }
     ensures { λ r. ⌜ Shared (loadAt (now (rows .entry)) at last) e a b f r ⌝ }
@@ -179,18 +179,18 @@ pub fn aim(c: Cell, s: usize, m: u64, a: u64, b: u64) -> Target
 // The target of wire i at the polarity p, whose columns these are, for a surplus of e at its parent.
 pub fn aim_at(
     c: Cell,
-    rows: &[u32; 34850],
-    many: &[usize; 1025],
-    next: &[usize; 1025],
-    counts: &[u64; 1025],
-    loads: &[u64; 1025],
-    mores: &[u64; 1025],
+    rows: &[u32],
+    many: &[usize],
+    next: &[usize],
+    counts: &[u64],
+    loads: &[u64],
+    mores: &[u64],
     p: usize,
     e: usize,
     i: usize,
 ) -> Target
-    requires { ⌜ CellOk c × (length (now rows) ≡ 34850) × (length (now many) ≡ 1025) × (length (now next) ≡ 1025) × (length (now counts) ≡ 1025) × (length (now loads) ≡ 1025) × (length (now mores) ≡ 1025) ⌝ }
-    requires { ⌜ (p ≤ 1) × (i < 1025) × (getD (now next) i 0 < 1025) × (getD (now many) (getD (now next) i 0) 0 ≤ 8) ⌝ }
+    requires { ⌜ CellOk c × (i < length (now next)) × (i < length (now counts)) × (i < length (now loads)) × (i < length (now mores)) ⌝ }
+    requires { ⌜ (p ≤ 1) × HasSlot (now rows) (now counts) (getD (now next) i 0) × (getD (now next) i 0 < length (now many)) × (getD (now many) (getD (now next) i 0) 0 ≤ 8) ⌝ }
     requires { ⌜ (getD (now loads) i 0 ≤ 1000000) × (getD (now mores) i 0 ≤ 1000000) × (getD (now counts) i 0 ≤ 600000000000) ⌝ }
     requires { ⌜ ((k : ℕ) → loadAt (now rows) (getD (now next) i 0 * 34 + p * 17) (getD (now many) (getD (now next) i 0) 0 * 2) k ≤ 2000000000) ⌝ }
     ensures { λ z. ⌜ Aimed (modelOf c) (kindOf (c .repeater)) (loadAt (now (rows .entry)) (getD (now (next .entry)) i 0 * 34 + p * 17) (getD (now (many .entry)) (getD (now (next .entry)) i 0) 0 * 2)) e (getD (now (counts .entry)) i 0 - getD (now (counts .entry)) (getD (now (next .entry)) i 0) 0) (getD (now (loads .entry)) i 0) (getD (now (mores .entry)) i 0) z ⌝ }
@@ -206,8 +206,8 @@ pub fn aim_at(
 }
 
 // The surplus that a node is asked for whose row is at `at`: with one more where x is 1 and that hands up less.
-pub fn surplus(c: Cell, rows: &[u32; 34850], at: usize, last: usize, x: u64) -> usize
-    requires { ⌜ (length (now rows) ≡ 34850) × (at + last < 34850) × (last ≤ 16) ⌝ }
+pub fn surplus(c: Cell, rows: &[u32], at: usize, last: usize, x: u64) -> usize
+    requires { ⌜ (at + last < length (now rows)) × (last ≤ 16) ⌝ }
     ensures { λ e. ⌜ Budget (modelOf c) (loadAt (now (rows .entry)) at last) last x e ⌝ }
 {
     let e = rows::first_fit(rows, at, last, c.limit);
@@ -238,13 +238,13 @@ pub fn cut_wire(
     w: u64,
     same: Side,
     other: Side,
-    rows: &[u32; 34850],
+    rows: &[u32],
     last: usize,
     k: usize,
     p: usize,
     g: Target,
 ) -> Cut
-    requires { ⌜ CellOk c × (length (now rows) ≡ 34850) × (last ≤ 16) × (k < 1025) × (p ≤ 1) ⌝ }
+    requires { ⌜ CellOk c × (k * 34 + 34 ≤ length (now rows)) × (last ≤ 16) × (p ≤ 1) ⌝ }
     requires { ⌜ (w ≤ 10000000) × Small 500000000000 same × Small 500000000000 other × (g .extra ≤ 2) ⌝ }
     requires { ⌜ Meets (modelOf c) (kindOf (c .repeater)) w (st same) (st other) (g .count) (g .load) ⌝ }
     ensures { λ z. ⌜ CutOk (modelOf c) (kindOf (c .repeater)) (now (rows .entry)) last k p w (st same) (st other) g z ⌝ }

@@ -3,14 +3,14 @@ use Prim.Native.Nat.{ℕ, zero, suc, _+_, _-_, _≤_, _<_}
 use mathlib.Core.Path.{_≡_, refl, sym, ap, _∙_}
 use mathlib.Core.List.{List, [], _∷_, _++_, append-assoc, append-nil, map}
 use native.Mathlib.Omega.{arith}
-use lib.ListN.{length, getD, replicate, length-append, length-replicate}
+use lib.ListN.{length, replicate, length-append, length-replicate}
 use lib.Seq.{sets, length-sets}
 use Rattle.net.specs.declared.Entry.{Entry}
 use Rattle.net.specs.Net.{Net, places, wire}
 use Rattle.frontier.specs.Cell.{Cell}
 use Rattle.frontier.specs.Placed.{onWire, onWires, placed}
 use Rattle.cuts.specs.Offsets.{steps, offsets}
-use Rattle.walk.specs.Walk.{offsOf}
+use Rattle.walk.specs.Walk.{belowAt, spacedAt, toppedAt, offsOf}
 use Rattle.entries.specs.Columns.{wireColumn, offsetColumn}
 use Rattle.entries.proofs.Spacing.{sets-append, steps-length}
 
@@ -96,5 +96,5 @@ pub offsets-long : {n : Net} {offs : ℕ → List ℕ} {ws₀ ws os₀ os : List
 offsets-long {os₀ = os₀} s = ap length (s .offsets) ∙ length-sets os₀ 0 (offsetColumn (s .done))
 
 -- how many stand on wire i
-pub on-wire : (τ : Cell) (n : Net) (below spaced topped : List ℕ) (i : ℕ) → length (offsOf τ n below spaced topped i) ≡ getD spaced i 0 + getD topped i 0
-on-wire τ n below spaced topped i = offsets-length τ (wire n i) (getD below i 0) (getD spaced i 0) (getD topped i 0)
+pub on-wire : (τ : Cell) (n : Net) (t : List ℕ) (i : ℕ) → length (offsOf τ n t i) ≡ spacedAt t i + toppedAt t i
+on-wire τ n t i = offsets-length τ (wire n i) (belowAt t i) (spacedAt t i) (toppedAt t i)

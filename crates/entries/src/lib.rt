@@ -1,8 +1,8 @@
 // Entries written into the two lent columns, wire after wire: each wire's repeaters as far apart as they may be, then those at its upper end.
 use states::Cell;
 ghost use mathlib.Core.Path.{_≡_};
-ghost use Prim.Native.Nat.{_+_, _≤_, _<_};
-ghost use lib.ListN.{length, getD, replicate};
+ghost use Prim.Native.Nat.{_+_, _*_, _≤_, _<_};
+ghost use lib.ListN.{length, replicate};
 ghost use lib.Seq.{sets};
 ghost use Rattle.net.specs.Net.{netAt};
 ghost use Rattle.net.specs.Sound.{SoundNet};
@@ -62,7 +62,7 @@ pub fn write_wire(
     next + k
 }
 
-// The entries of all wires.
+// The entries of all wires, as the walk has noted them.
 pub fn write_all(
     c: Cell,
     parent: &[u16],
@@ -70,24 +70,23 @@ pub fn write_all(
     kind: &[u8],
     pin: &[u32],
     polarity: &[u8],
-    below: &[u64; 1025],
-    spaced: &[u64; 1025],
-    topped: &[u64; 1025],
+    walked: &[u64],
     wires: &mut [u16],
     offsets: &mut [u32],
 )
-    requires { ⌜ CellOk c × SoundNet (netAt (limitsOf c) parent wire kind pin polarity) × (length (now below) ≡ 1025) × (length (now spaced) ≡ 1025) × (length (now topped) ≡ 1025) ⌝ }
-    requires { ⌜ length (placed (netAt (limitsOf c) parent wire kind pin polarity) (offsOf (modelOf c) (netAt (limitsOf c) parent wire kind pin polarity) (now below) (now spaced) (now topped))) ≤ length (now wires) ⌝ }
-    requires { ⌜ length (placed (netAt (limitsOf c) parent wire kind pin polarity) (offsOf (modelOf c) (netAt (limitsOf c) parent wire kind pin polarity) (now below) (now spaced) (now topped))) ≤ length (now offsets) ⌝ }
-    ensures { λ r. ⌜ now (wires .exit) ≡ sets (now (wires .entry)) 0 (wireColumn (placed (netAt (limitsOf c) (parent .entry) (wire .entry) (kind .entry) (pin .entry) (polarity .entry)) (offsOf (modelOf c) (netAt (limitsOf c) (parent .entry) (wire .entry) (kind .entry) (pin .entry) (polarity .entry)) (now (below .entry)) (now (spaced .entry)) (now (topped .entry))))) ⌝ }
-    ensures { λ r. ⌜ now (offsets .exit) ≡ sets (now (offsets .entry)) 0 (offsetColumn (placed (netAt (limitsOf c) (parent .entry) (wire .entry) (kind .entry) (pin .entry) (polarity .entry)) (offsOf (modelOf c) (netAt (limitsOf c) (parent .entry) (wire .entry) (kind .entry) (pin .entry) (polarity .entry)) (now (below .entry)) (now (spaced .entry)) (now (topped .entry))))) ⌝ }
+    requires { ⌜ CellOk c × SoundNet (netAt (limitsOf c) parent wire kind pin polarity) × (length (now parent) * 5 ≤ length (now walked)) ⌝ }
+    requires { ⌜ length (placed (netAt (limitsOf c) parent wire kind pin polarity) (offsOf (modelOf c) (netAt (limitsOf c) parent wire kind pin polarity) (now walked))) ≤ length (now wires) ⌝ }
+    requires { ⌜ length (placed (netAt (limitsOf c) parent wire kind pin polarity) (offsOf (modelOf c) (netAt (limitsOf c) parent wire kind pin polarity) (now walked))) ≤ length (now offsets) ⌝ }
+    ensures { λ r. ⌜ now (wires .exit) ≡ sets (now (wires .entry)) 0 (wireColumn (placed (netAt (limitsOf c) (parent .entry) (wire .entry) (kind .entry) (pin .entry) (polarity .entry)) (offsOf (modelOf c) (netAt (limitsOf c) (parent .entry) (wire .entry) (kind .entry) (pin .entry) (polarity .entry)) (now (walked .entry))))) ⌝ }
+    ensures { λ r. ⌜ now (offsets .exit) ≡ sets (now (offsets .entry)) 0 (offsetColumn (placed (netAt (limitsOf c) (parent .entry) (wire .entry) (kind .entry) (pin .entry) (polarity .entry)) (offsOf (modelOf c) (netAt (limitsOf c) (parent .entry) (wire .entry) (kind .entry) (pin .entry) (polarity .entry)) (now (walked .entry))))) ⌝ }
 {
     let mut i: usize = 1;
     let mut at: usize = 0;
     while i < wire.len() {
-        let h = below[i];
-        let r = spaced[i] as usize;
-        let k = topped[i] as usize;
+        let from = i * 5;
+        let h = walked[from + 2];
+        let r = walked[from + 3] as usize;
+        let k = walked[from + 4] as usize;
         at = write_wire(c, wires, offsets, at, i, rows::wide(wire[i]), h, r, k);
         i += 1;
     }

@@ -32,6 +32,11 @@ accOf (suc m) g = all m g
 abbrev pub slot : List ℕ → List ℕ → ℕ → ℕ → ℕ → Acc
 slot rows counts p last k = accOf (getD counts k 0) (loadAt rows (k * 34 + p * 17) last)
 
+-- the tables reach as far as the slot k: two rows of 17 loads, and a count
+pub record HasSlot (rows counts : List ℕ) (k : ℕ) : Type 0 where
+  pub row : k * 34 + 34 ≤ length rows
+  pub count : k < length counts
+
 -- its numbers are small
 abbrev pub SmallAcc : Acc → Type 0
 SmallAcc fail = Unit {0}

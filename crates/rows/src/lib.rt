@@ -7,7 +7,7 @@ ghost use Prim.Native.Nat.{ℕ, _+_, _*_, _<_, _≤_};
 ghost use lib.ListN.{length, getD, set};
 ghost use Rattle.frontier.specs.Frontier;
 ghost use Rattle.states.specs.States.{modelOf, st, CellOk, Small};
-ghost use Rattle.rows.specs.Rows.{loadAt, mixed, Mixed, slot, SmallAcc, FirstFit, Hung};
+ghost use Rattle.rows.specs.Rows.{loadAt, mixed, Mixed, slot, HasSlot, SmallAcc, FirstFit, Hung};
 ghost use Rattle.rows.specs.Sides.{sideOf, NodeSides, Lifted};
 
 pub fn wide(x: u32) -> u64
@@ -17,8 +17,8 @@ pub fn wide(x: u32) -> u64
 }
 
 // The load for a surplus of e in the row at `at`, which no longer falls past `last`.
-pub fn load_at(rows: &[u32; 34850], at: usize, last: usize, e: usize) -> u64
-    requires { ⌜ (length (now rows) ≡ 34850) × (at + last < 34850) ⌝ }
+pub fn load_at(rows: &[u32], at: usize, last: usize, e: usize) -> u64
+    requires { ⌜ at + last < length (now rows) ⌝ }
     ensures { λ r. ⌜ r ≡ loadAt (now (rows .entry)) at last e ⌝ }
 {
     if e < last {
@@ -28,16 +28,8 @@ pub fn load_at(rows: &[u32; 34850], at: usize, last: usize, e: usize) -> u64
 }
 
 // One load of a row with one wire more, which takes 0, 1 or 2 of the surplus e and then hands up a, b or c.
-pub fn mixed_at(
-    rows: &[u32; 34850],
-    at: usize,
-    last: usize,
-    e: usize,
-    a: u64,
-    b: u64,
-    c: u64,
-) -> u64
-    requires { ⌜ (length (now rows) ≡ 34850) × (at + last < 34850) ⌝ }
+pub fn mixed_at(rows: &[u32], at: usize, last: usize, e: usize, a: u64, b: u64, c: u64) -> u64
+    requires { ⌜ at + last < length (now rows) ⌝ }
     requires { ⌜ (a ≤ 1000000) × (b ≤ 1000000) × (c ≤ 1000000) ⌝ }
     requires { ⌜ ((k : ℕ) → loadAt (now rows) at last k ≤ 2000000000) ⌝ }
     ensures { λ r. ⌜ r ≡ mixed (loadAt (now (rows .entry)) at last) a b c e ⌝ }
@@ -55,8 +47,8 @@ pub fn mixed_at(
 }
 
 // The row at `to`: that at `from` with one wire more.
-pub fn mix(rows: &mut [u32; 34850], from: usize, last: usize, to: usize, a: u64, b: u64, c: u64)
-    requires { ⌜ (length (now rows) ≡ 34850) × (from + last < 34850) × (to + (last + 3) ≤ 34850) ⌝ }
+pub fn mix(rows: &mut [u32], from: usize, last: usize, to: usize, a: u64, b: u64, c: u64)
+    requires { ⌜ (from + last < length (now rows)) × (to + (last + 3) ≤ length (now rows)) ⌝ }
     requires { ⌜ ((from + last < to) ⊎ (to + (last + 3) ≤ from)) ⌝ }
     requires { ⌜ (a ≤ 1000000) × (b ≤ 1000000) × (c ≤ 1000000) ⌝ }
     requires { ⌜ ((k : ℕ) → loadAt (now rows) from last k ≤ 2000000000) ⌝ }
@@ -74,18 +66,18 @@ pub fn mix(rows: &mut [u32; 34850], from: usize, last: usize, to: usize, a: u64,
 // Wire i with the wires after it under its parent, at one polarity: those after it have the row of slot `from`.
 pub fn hang_side(
     c: Cell,
-    rows: &mut [u32; 34850],
-    counts: &mut [u64; 1025],
-    loads: &mut [u64; 1025],
-    mores: &mut [u64; 1025],
+    rows: &mut [u32],
+    counts: &mut [u64],
+    loads: &mut [u64],
+    mores: &mut [u64],
     p: usize,
     last: usize,
     from: usize,
     i: usize,
     s: Side,
 )
-    requires { ⌜ (length (now rows) ≡ 34850) × (length (now counts) ≡ 1025) × (length (now loads) ≡ 1025) × (length (now mores) ≡ 1025) ⌝ }
-    requires { ⌜ (p ≤ 1) × (last ≤ 14) × (from < 1025) × (i < 1025) ⌝ }
+    requires { ⌜ HasSlot (now rows) (now counts) from × HasSlot (now rows) (now counts) i × (i < length (now loads)) × (i < length (now mores)) ⌝ }
+    requires { ⌜ (p ≤ 1) × (last ≤ 14) ⌝ }
     requires { ⌜ (from ≡ i → ⊥) ⌝ }
     requires { ⌜ CellOk c × Small 1000000000000 s × SmallAcc (slot (now rows) (now counts) p last from) ⌝ }
     ensures { λ r. ⌜ Hung (modelOf c) (st s) p last from i (now (rows .entry)) (now (counts .entry)) (now (loads .entry)) (now (mores .entry)) (now (rows .exit)) (now (counts .exit)) (now (loads .exit)) (now (mores .exit)) ⌝ }
@@ -109,8 +101,8 @@ pub fn hang_side(
 }
 
 // The least surplus at which the load fits, or one more than `last`.
-pub fn first_fit(rows: &[u32; 34850], at: usize, last: usize, limit: u64) -> usize
-    requires { ⌜ (length (now rows) ≡ 34850) × (at + last < 34850) ⌝ }
+pub fn first_fit(rows: &[u32], at: usize, last: usize, limit: u64) -> usize
+    requires { ⌜ at + last < length (now rows) ⌝ }
     ensures { λ e. ⌜ FirstFit (now (rows .entry)) at last limit e ⌝ }
 {
     let mut e: usize = 0;
@@ -125,15 +117,8 @@ pub fn first_fit(rows: &[u32; 34850], at: usize, last: usize, limit: u64) -> usi
 }
 
 // A node's state out of the row of the slot k.
-pub fn close(
-    c: Cell,
-    rows: &[u32; 34850],
-    counts: &[u64; 1025],
-    p: usize,
-    last: usize,
-    k: usize,
-) -> Side
-    requires { ⌜ (length (now rows) ≡ 34850) × (length (now counts) ≡ 1025) × (p ≤ 1) × (last ≤ 16) × (k < 1025) ⌝ }
+pub fn close(c: Cell, rows: &[u32], counts: &[u64], p: usize, last: usize, k: usize) -> Side
+    requires { ⌜ HasSlot (now rows) (now counts) k × (p ≤ 1) × (last ≤ 16) ⌝ }
     requires { ⌜ CellOk c × SmallAcc (slot (now rows) (now counts) p last k) ⌝ }
     ensures { λ r. ⌜ st r ≡ Frontier.close (modelOf c) last (slot (now (rows .entry)) (now (counts .entry)) p last k) ⌝ }
     ensures { λ r. ⌜ Small 500000000000 r ⌝ }
@@ -158,13 +143,13 @@ pub fn node_side(
     kind: u8,
     pin: u64,
     polarity: u8,
-    rows: &[u32; 34850],
-    counts: &[u64; 1025],
+    rows: &[u32],
+    counts: &[u64],
     p: u8,
     last: usize,
     k: usize,
 ) -> Side
-    requires { ⌜ (length (now rows) ≡ 34850) × (length (now counts) ≡ 1025) × (p ≤ 1) × (last ≤ 16) × (k < 1025) ⌝ }
+    requires { ⌜ HasSlot (now rows) (now counts) k × (p ≤ 1) × (last ≤ 16) ⌝ }
     requires { ⌜ CellOk c × SmallAcc (slot (now rows) (now counts) p last k) ⌝ }
     ensures { λ r. ⌜ st r ≡ sideOf (modelOf c) kind pin polarity last (slot (now (rows .entry)) (now (counts .entry)) p last k) p ⌝ }
     ensures { λ r. ⌜ Small 500000000000 r ⌝ }
@@ -186,13 +171,13 @@ pub fn node_sides(
     kind: u8,
     pin: u64,
     polarity: u8,
-    rows: &[u32; 34850],
-    plus: &[u64; 1025],
-    minus: &[u64; 1025],
+    rows: &[u32],
+    plus: &[u64],
+    minus: &[u64],
     last: usize,
     k: usize,
 ) -> Sides
-    requires { ⌜ (length (now rows) ≡ 34850) × (length (now plus) ≡ 1025) × (length (now minus) ≡ 1025) × (last ≤ 16) × (k < 1025) ⌝ }
+    requires { ⌜ HasSlot (now rows) (now plus) k × HasSlot (now rows) (now minus) k × (last ≤ 16) ⌝ }
     requires { ⌜ CellOk c × SmallAcc (slot (now rows) (now plus) 0 last k) × SmallAcc (slot (now rows) (now minus) 1 last k) ⌝ }
     ensures { λ r. ⌜ NodeSides (modelOf c) kind pin polarity last (slot (now (rows .entry)) (now (plus .entry)) 0 last k) (slot (now (rows .entry)) (now (minus .entry)) 1 last k) r ⌝ }
 {
@@ -216,15 +201,9 @@ pub fn lift(c: Cell, w: u64, s: Sides) -> Sides
 }
 
 // Wire i is the first under v now, before the one that was.
-pub fn link(
-    many: &mut [usize; 1025],
-    next: &mut [usize; 1025],
-    head: &mut [usize; 1025],
-    v: usize,
-    i: usize,
-)
-    requires { ⌜ (length (now many) ≡ 1025) × (length (now next) ≡ 1025) × (length (now head) ≡ 1025) × (v < 1025) × (i < 1025) ⌝ }
-    requires { ⌜ (getD (now head) v 0 < 1025) × (getD (now many) (getD (now head) v 0) 0 ≤ 8) ⌝ }
+pub fn link(many: &mut [usize], next: &mut [usize], head: &mut [usize], v: usize, i: usize)
+    requires { ⌜ (i < length (now many)) × (i < length (now next)) × (v < length (now head)) ⌝ }
+    requires { ⌜ (getD (now head) v 0 < length (now many)) × (getD (now many) (getD (now head) v 0) 0 ≤ 8) ⌝ }
     ensures { λ r. ⌜ (now (next .exit) ≡ set (now (next .entry)) i (getD (now (head .entry)) v 0)) × (now (many .exit) ≡ set (now (many .entry)) i (getD (now (many .entry)) (getD (now (head .entry)) v 0) 0 + 1)) × (now (head .exit) ≡ set (now (head .entry)) v i) ⌝ }
 {
     let k = head[v];

@@ -3,8 +3,8 @@ use Prim.Native.Nat.{ℕ, zero, suc, _+_, _-_, _*_, _≤_, _<_, min, max}
 use mathlib.Core.Path.{_≡_, refl, sym, subst, ap, _∙_}
 use mathlib.Core.List.{List}
 use native.Mathlib.Omega.{arith}
-use lib.ListN.{length, getD}
-use lib.Seq.{sets}
+use lib.ListN.{length, getD, set, length-set}
+use lib.Seq.{sets, getD-set-same, getD-set-other}
 use Rattle.net.specs.Net.{Net, places}
 use Rattle.net.specs.Tree.{hanging, tree}
 use Rattle.net.specs.Legal.{Legal, Least, NoneLegal}
@@ -22,7 +22,7 @@ use Rattle.rows.specs.Rows.{loadAt, accOf}
 use Rattle.tables.specs.Tables.{Tables, headOf, manyOf, slotOf, Holds, Filled}
 use Rattle.tables.proofs.Ready.{Fit, fit}
 use Rattle.cuts.specs.Choice.{Under, Budgeted, Budget}
-use Rattle.walk.specs.Walk.{Alive, offsOf, Walked}
+use Rattle.walk.specs.Walk.{senseAt, leftAt, Alive, offsOf, Walked}
 use Rattle.entries.specs.Columns.{wireColumn, offsetColumn}
 use Rattle.solver.specs.declared.Source.{Source}
 use Rattle.solver.specs.declared.Solved.{Solved}
@@ -81,18 +81,18 @@ module _ {c : Cell} (ok : CellOk c) {n : Net} (sound : SoundNet n) (same : limit
   least-there k a b e = least-if-has sound k a b (root-here e)
 
   -- ---- the walk from there
-  pub walked-least : {p e N : ℕ} {below spaced topped : List ℕ} → Rooted (modelOf c) n p e N → Walked (modelOf c) n p e below spaced topped
-      → Legal n (placed n (offsOf (modelOf c) n below spaced topped)) × (length (placed n (offsOf (modelOf c) n below spaced topped)) ≡ N)
-  walked-least {p} {e} {N} {below} {spaced} {topped} r w =
+  pub walked-least : {p e N : ℕ} {t : List ℕ} → Rooted (modelOf c) n p e N → Walked (modelOf c) n p e t
+      → Legal n (placed n (offsOf (modelOf c) n t)) × (length (placed n (offsOf (modelOf c) n t)) ≡ N)
+  walked-least {p} {e} {N} {t} r w =
       let x = w .settles N (r .load) (r .more) (r .is) (r .budget) in
-      placed-is-least sound N (r .a) (r .b) (root-here (r .root)) p (offsOf (modelOf c) n below spaced topped) (subst (λ (τ : model.Cell). Settled τ p (tree n) (planOf (offsOf (modelOf c) n below spaced topped) (tree n))) cell-is (x .0)) (x .1)
+      placed-is-least sound N (r .a) (r .b) (root-here (r .root)) p (offsOf (modelOf c) n t) (subst (λ (τ : model.Cell). Settled τ p (tree n) (planOf (offsOf (modelOf c) n t) (tree n))) cell-is (x .0)) (x .1)
 
-  pub outcome-placed : {p e N : ℕ} {below spaced topped ws os ws′ os′ : List ℕ} → Rooted (modelOf c) n p e N → Walked (modelOf c) n p e below spaced topped → N ≤ roomIn ws os
-      → ws′ ≡ sets ws 0 (wireColumn (placed n (offsOf (modelOf c) n below spaced topped))) → os′ ≡ sets os 0 (offsetColumn (placed n (offsOf (modelOf c) n below spaced topped))) → Outcome n ws os ws′ os′ (Placed N)
-  outcome-placed {p} {e} {N} {below} {spaced} {topped} r w h ew eo =
+  pub outcome-placed : {p e N : ℕ} {t ws os ws′ os′ : List ℕ} → Rooted (modelOf c) n p e N → Walked (modelOf c) n p e t → N ≤ roomIn ws os
+      → ws′ ≡ sets ws 0 (wireColumn (placed n (offsOf (modelOf c) n t))) → os′ ≡ sets os 0 (offsetColumn (placed n (offsOf (modelOf c) n t))) → Outcome n ws os ws′ os′ (Placed N)
+  outcome-placed {p} {e} {N} {t} r w h ew eo =
       let x = walked-least r w in
-      let q : N ≡ length (placed n (offsOf (modelOf c) n below spaced topped)) = sym (x .1) in
-      answer.placed (placed n (offsOf (modelOf c) n below spaced topped)) (x .0) (subst (Least n) q (least-there N (r .a) (r .b) (r .root))) (omega arith) (ap Placed q) (record { wires = ew; offsets = eo })
+      let q : N ≡ length (placed n (offsOf (modelOf c) n t)) = sym (x .1) in
+      answer.placed (placed n (offsOf (modelOf c) n t)) (x .0) (subst (Least n) q (least-there N (r .a) (r .b) (r .root))) (omega arith) (ap Placed q) (record { wires = ew; offsets = eo })
 
   -- ---- out of the tables
   module _ {t : Tables} (f : Filled (modelOf c) n t 1) where
@@ -100,7 +100,7 @@ module _ {c : Cell} (ok : CellOk c) {n : Net} (sound : SoundNet n) (same : limit
     here = let m : max 1 (suc 0) ≡ 1 = omega arith in subst (λ (z : ℕ). Holds (modelOf c) n t z 0 (headOf t 0)) m (f .heads 0 (sound .some))
 
     pub source-fit : Fit t (headOf t 0)
-    source-fit = fit ok sound here (omega arith) (sound .some)
+    source-fit = fit ok sound (f .long) here (omega arith) (sound .some)
 
     last-is : manyOf t (headOf t 0) * 2 ≡ 2 * width (tree n)
     last-is = omega (arith, here .wide)
@@ -146,5 +146,22 @@ unfolding close
 alive τ last fail N h h₁ e = let z : _≡_ {A = ℕ} 0 1 = cc in absurd (omega arith)
 alive τ last (all m g) N h h₁ e = tt
 
-pub rooted-alive : {τ : model.Cell} {n : Net} {p e N : ℕ} → Rooted τ n p e N → Alive (acc τ (tree n) p)
+rooted-alive : {τ : model.Cell} {n : Net} {p e N : ℕ} → Rooted τ n p e N → Alive (acc τ (tree n) p)
 rooted-alive {τ} {n} {p} {e} {N} r = alive τ (2 * width (tree n)) (acc τ (tree n) p) N (r .load) (r .more) (r .is)
+
+-- ---- the walk's table w as the walk begins, at the source's polarity and surplus
+module _ (w : List ℕ) (p e : ℕ) (long : 2 ≤ length w) where
+  abbrev begun : List ℕ
+  begun = set (set w 0 p) 1 e
+
+  begun-sense : senseAt begun 0 ≡ p
+  begun-sense = getD-set-other (set w 0 p) 1 0 e 0 (λ q. omega arith) ∙ getD-set-same w 0 p 0 (omega arith)
+
+  begun-left : leftAt begun 0 ≡ e
+  begun-left = getD-set-same (set w 0 p) 1 e 0 (simp length-set (omega arith))
+
+  pub begun-alive : {τ : model.Cell} {n : Net} {N : ℕ} → Rooted τ n p e N → (senseAt begun 0 ≤ 1) × Alive (acc τ (tree n) (senseAt begun 0))
+  begun-alive {τ} {n} r = subst (λ (q : ℕ). (q ≤ 1) × Alive (acc τ (tree n) q)) (sym begun-sense) (r .few, rooted-alive r)
+
+  pub begun-walked : {τ : model.Cell} {n : Net} {t : List ℕ} → Walked τ n (senseAt begun 0) (leftAt begun 0) t → Walked τ n p e t
+  begun-walked {τ} {n} {t} x = subst (λ (q : ℕ). Walked τ n q e t) begun-sense (subst (λ (y : ℕ). Walked τ n (senseAt begun 0) y t) begun-left x)

@@ -39,47 +39,71 @@ pub count-of : (c : ℕ) (g : ℕ → ℕ) (m : ℕ) (f : ℕ → ℕ) → accOf
 count-of zero g m f e = absurd (let z : _≡_ {A = ℕ} 0 1 = cc in omega arith)
 count-of (suc c) g m f e = let q : c ≡ m = cc in ap suc q
 
--- ---- nothing yet
-pub filled-none : (τ : Cell) (n : Net) → places n ≤ 1025
-    → Filled τ n (tables (replicate 34850 0) (replicate 1025 0) (replicate 1025 0) (replicate 1025 0) (replicate 1025 1) (replicate 1025 0) (replicate 1025 0) (replicate 1025 1) (replicate 1025 0) (replicate 1025 0)) (places n)
-unfolding acc
-filled-none τ n h = record {
-  long = record {
-    rows = length-replicate {A = ℕ} 34850 0;
-    many = length-replicate {A = ℕ} 1025 0;
-    next = length-replicate {A = ℕ} 1025 0;
-    head = length-replicate {A = ℕ} 1025 0;
-    plus = length-replicate {A = ℕ} 1025 1;
-    plus-load = length-replicate {A = ℕ} 1025 0;
-    plus-more = length-replicate {A = ℕ} 1025 0;
-    minus = length-replicate {A = ℕ} 1025 1;
-    minus-load = length-replicate {A = ℕ} 1025 0;
-    minus-more = length-replicate {A = ℕ} 1025 0;
-  };
-  heads = λ v l.
-      let e : places n - max (places n) (suc v) ≡ places n - places n = omega arith in
-      let z : _≡_ {A = ℕ} (getD (replicate 1025 0) v 0) 0 = getD-replicate {A = ℕ} 1025 v 0 0 (omega arith) in
-      rw z (record {
-        low = omega arith;
-        fresh = λ x. absurd (omega arith);
-        wide = rw (e, hanging-end n (places n) v (omega arith)) (getD-replicate {A = ℕ} 1025 0 0 0 (omega arith));
-        row = λ p q. rw (e, hanging-end n (places n) v (omega arith)) (zeros p q);
-      });
-  nexts = λ j l g. absurd (omega arith);
-  kept = λ j p l g q. absurd (omega arith);
-}
-  where
-    none : _≡_ {A = ℕ} (getD (replicate 1025 0) 0 0) 0
-    none = getD-replicate {A = ℕ} 1025 0 0 0 (omega arith)
+-- ---- the lengths of the tables are as they were
+pub record Same (t u : Tables) : Type 0 where
+  pub rows : length (u .rows) ≡ length (t .rows)
+  pub many : length (u .many) ≡ length (t .many)
+  pub next : length (u .next) ≡ length (t .next)
+  pub head : length (u .head) ≡ length (t .head)
+  pub plus : length (u .plus) ≡ length (t .plus)
+  pub plus-load : length (u .plus-load) ≡ length (t .plus-load)
+  pub plus-more : length (u .plus-more) ≡ length (t .plus-more)
+  pub minus : length (u .minus) ≡ length (t .minus)
+  pub minus-load : length (u .minus-load) ≡ length (t .minus-load)
+  pub minus-more : length (u .minus-more) ≡ length (t .minus-more)
 
-    one : _≡_ {A = ℕ} (getD (replicate 1025 1) 0 0) 1
-    one = getD-replicate {A = ℕ} 1025 0 1 0 (omega arith)
+-- ---- nothing yet: M loads and N places of each other table, for a net of at most N places
+module _ (M N : ℕ) (wide : N * 34 ≤ M) where
+  abbrev pub cleared : Tables
+  cleared = tables (replicate M 0) (replicate N 0) (replicate N 0) (replicate N 0) (replicate N 1) (replicate N 0) (replicate N 0) (replicate N 1) (replicate N 0) (replicate N 0)
 
-    zeros : (p : ℕ) → p ≤ 1
-        → slotOf (tables (replicate 34850 0) (replicate 1025 0) (replicate 1025 0) (replicate 1025 0) (replicate 1025 1) (replicate 1025 0) (replicate 1025 0) (replicate 1025 1) (replicate 1025 0) (replicate 1025 0)) p 0 ≡ all 0 (λ e. 0)
-    zeros zero q = ap (λ (c : ℕ). accOf c (loadAt (replicate 34850 0) (0 * 34 + 0 * 17) (getD (replicate 1025 0) 0 0 * 2))) one ∙ ap (all 0) (λ ι e. getD-replicate {A = ℕ} 34850 (0 * 34 + 0 * 17 + min e (getD (replicate 1025 0) 0 0 * 2)) 0 0 (omega (arith, none)) ι)
-    zeros (suc zero) q = ap (λ (c : ℕ). accOf c (loadAt (replicate 34850 0) (0 * 34 + 1 * 17) (getD (replicate 1025 0) 0 0 * 2))) one ∙ ap (all 0) (λ ι e. getD-replicate {A = ℕ} 34850 (0 * 34 + 1 * 17 + min e (getD (replicate 1025 0) 0 0 * 2)) 0 0 (omega (arith, none)) ι)
-    zeros (suc (suc p)) q = absurd (omega arith)
+  -- the slot 0 is that of a node without wires
+  zeros : 1 ≤ N → (p : ℕ) → p ≤ 1 → slotOf cleared p 0 ≡ all 0 (λ e. 0)
+  zeros some p q = go p q
+    where
+      none : _≡_ {A = ℕ} (getD (replicate N 0) 0 0) 0
+      none = getD-replicate {A = ℕ} N 0 0 0 some
+
+      one : _≡_ {A = ℕ} (getD (replicate N 1) 0 0) 1
+      one = getD-replicate {A = ℕ} N 0 1 0 some
+
+      row : (at : ℕ) → at ≤ 17 → accOf (getD (replicate N 1) 0 0) (loadAt (replicate M 0) at (getD (replicate N 0) 0 0 * 2)) ≡ all 0 (λ e. 0)
+      row at l =
+          ap (λ (c : ℕ). accOf c (loadAt (replicate M 0) at (getD (replicate N 0) 0 0 * 2))) one
+          ∙ ap (all 0) (λ ι e. getD-replicate {A = ℕ} M (at + min e (getD (replicate N 0) 0 0 * 2)) 0 0 (omega (arith, none)) ι)
+
+      go : (p : ℕ) → p ≤ 1 → slotOf cleared p 0 ≡ all 0 (λ e. 0)
+      go zero q = row (0 * 34 + 0 * 17) (omega arith)
+      go (suc zero) q = row (0 * 34 + 1 * 17) (omega arith)
+      go (suc (suc p)) q = absurd (omega arith)
+
+  pub filled-none : (τ : Cell) (n : Net) → places n ≤ N → Filled τ n cleared (places n)
+  unfolding acc
+  filled-none τ n h = record {
+    long = record {
+      rows = omega (arith, length-replicate {A = ℕ} M 0);
+      many = omega (arith, length-replicate {A = ℕ} N 0);
+      next = omega (arith, length-replicate {A = ℕ} N 0);
+      head = omega (arith, length-replicate {A = ℕ} N 0);
+      plus = omega (arith, length-replicate {A = ℕ} N 1);
+      plus-load = omega (arith, length-replicate {A = ℕ} N 0);
+      plus-more = omega (arith, length-replicate {A = ℕ} N 0);
+      minus = omega (arith, length-replicate {A = ℕ} N 1);
+      minus-load = omega (arith, length-replicate {A = ℕ} N 0);
+      minus-more = omega (arith, length-replicate {A = ℕ} N 0);
+    };
+    heads = λ v l.
+        let e : places n - max (places n) (suc v) ≡ places n - places n = omega arith in
+        let z : _≡_ {A = ℕ} (getD (replicate N 0) v 0) 0 = getD-replicate {A = ℕ} N v 0 0 (omega arith) in
+        rw z (record {
+          low = omega arith;
+          fresh = λ x. absurd (omega arith);
+          wide = rw (e, hanging-end n (places n) v (omega arith)) (getD-replicate {A = ℕ} N 0 0 0 (omega arith));
+          row = λ p q. rw (e, hanging-end n (places n) v (omega arith)) (zeros (omega arith) p q);
+        });
+    nexts = λ j l g. absurd (omega arith);
+    kept = λ j p l g q. absurd (omega arith);
+  }
 
 -- ---- one wire more
 module _ (τ : Cell) {n : Net} (sound : SoundNet n) (t : Tables) (i : ℕ) (f : Filled τ n t (suc i)) (lo : 1 ≤ i) (h : i < places n)
@@ -130,7 +154,7 @@ module _ (τ : Cell) {n : Net} (sound : SoundNet n) (t : Tables) (i : ℕ) (f : 
   few-old = omega (arith, old .wide, width-more sound i (parent n i) h refl, width-few sound (places n - i) (parent n i) (omega arith))
 
   own-many : getD many′ i 0 ≡ manyOf t (headOf t (parent n i)) + 1
-  own-many = ap (λ (l : List ℕ). getD l i 0) em ∙ getD-set-same (t .many) i (manyOf t (headOf t (parent n i)) + 1) 0 (omega (arith, f .long .many, sound .few))
+  own-many = ap (λ (l : List ℕ). getD l i 0) em ∙ getD-set-same (t .many) i (manyOf t (headOf t (parent n i)) + 1) 0 (omega (arith, f .long .many))
 
   -- i's own slot
   joined : (p : ℕ) → p ≤ 1 → slotOf u p i ≡ join τ (liftOf τ n i p) (slotOf t p (headOf t (parent n i)))
@@ -150,7 +174,7 @@ module _ (τ : Cell) {n : Net} (sound : SoundNet n) (t : Tables) (i : ℕ) (f : 
   own : Holds τ n u i (parent n i) i
   unfolding u
   own = record {
-    low = omega (arith, sound .few);
+    low = h;
     fresh = λ z. omega arith;
     wide = own-many ∙ omega (arith, old .wide, width-more sound i (parent n i) h refl);
     row = λ p q. joined p q ∙ ap (join τ (liftOf τ n i p)) (old .row p q) ∙ acc-more τ sound i p h;
@@ -160,7 +184,7 @@ module _ (τ : Cell) {n : Net} (sound : SoundNet n) (t : Tables) (i : ℕ) (f : 
   head-other z ne = ap (λ (l : List ℕ). getD l z 0) eh ∙ getD-set-other (t .head) (parent n i) z i 0 ne
 
   head-own : getD head′ (parent n i) 0 ≡ i
-  head-own = ap (λ (l : List ℕ). getD l (parent n i) 0) eh ∙ getD-set-same (t .head) (parent n i) i 0 (omega (arith, f .long .head, sound .few, lower))
+  head-own = ap (λ (l : List ℕ). getD l (parent n i) 0) eh ∙ getD-set-same (t .head) (parent n i) i 0 (omega (arith, f .long .head, lower))
 
   heads : (w : ℕ) → w < places n → Holds τ n u (max i (suc w)) w (headOf u w)
   unfolding u
@@ -192,7 +216,7 @@ module _ (τ : Cell) {n : Net} (sound : SoundNet n) (t : Tables) (i : ℕ) (f : 
   unfolding u
   nexts j l g = elim (ℕ-discrete j i) [
     | yes e ↦ (
-        let q : getD next′ i 0 ≡ headOf t (parent n i) = ap (λ (l : List ℕ). getD l i 0) en ∙ getD-set-same (t .next) i (headOf t (parent n i)) 0 (omega (arith, f .long .next, sound .few)) in
+        let q : getD next′ i 0 ≡ headOf t (parent n i) = ap (λ (l : List ℕ). getD l i 0) en ∙ getD-set-same (t .next) i (headOf t (parent n i)) 0 (omega (arith, f .long .next)) in
         subst (λ (j : ℕ). Holds τ n u (suc j) (parent n j) (getD next′ j 0)) (sym e) (subst (Holds τ n u (suc i) (parent n i)) (sym q) (moved (suc i) (parent n i) (headOf t (parent n i)) (omega arith) (omega arith) old k-not))
         )
     | no ne ↦ (
@@ -234,16 +258,16 @@ module _ (τ : Cell) {n : Net} (sound : SoundNet n) (t : Tables) (i : ℕ) (f : 
   unfolding u
   filled-more = record {
     long = record {
-      rows = b .rows-long ∙ a .rows-long ∙ f .long .rows;
-      many = ap length em ∙ simp length-set (f .long .many);
-      next = ap length en ∙ simp length-set (f .long .next);
-      head = ap length eh ∙ simp length-set (f .long .head);
-      plus = a .counts-long ∙ f .long .plus;
-      plus-load = a .loads-long ∙ f .long .plus-load;
-      plus-more = a .mores-long ∙ f .long .plus-more;
-      minus = b .counts-long ∙ f .long .minus;
-      minus-load = b .loads-long ∙ f .long .minus-load;
-      minus-more = b .mores-long ∙ f .long .minus-more;
+      rows = omega (arith, b .rows-long, a .rows-long, f .long .rows);
+      many = omega (arith, simp length-set at (ap length em), f .long .many);
+      next = omega (arith, simp length-set at (ap length en), f .long .next);
+      head = omega (arith, simp length-set at (ap length eh), f .long .head);
+      plus = omega (arith, a .counts-long, f .long .plus);
+      plus-load = omega (arith, a .loads-long, f .long .plus-load);
+      plus-more = omega (arith, a .mores-long, f .long .plus-more);
+      minus = omega (arith, b .counts-long, f .long .minus);
+      minus-load = omega (arith, b .loads-long, f .long .minus-load);
+      minus-more = omega (arith, b .mores-long, f .long .minus-more);
     };
     heads = heads;
     nexts = nexts;

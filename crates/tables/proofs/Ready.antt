@@ -1,6 +1,7 @@
 -- What one turn of the pass may count on before it joins wire i: its node's slot and its parent's are in range and small, and its states are the frontier's.
 use Prim.Native.Nat.{ℕ, zero, suc, _+_, _-_, _*_, _≤_, _<_, max}
 use mathlib.Core.Path.{_≡_, refl, sym, subst, ap, _∙_}
+use mathlib.Core.List.{List}
 use native.Mathlib.Omega.{arith}
 use lib.ListN.{length, getD}
 use Rattle.net.specs.Net.{Net, places, parent, wire, kind, pin, polarity}
@@ -12,22 +13,38 @@ use Rattle.states.specs.declared.Cell.{Cell}
 use Rattle.states.specs.States.{modelOf, st, CellOk, SmallS, Small, wireOf}
 use Rattle.states.proofs.Leaves.{wire-0, wire-1, wire-small, small-up}
 use Rattle.rows.specs.declared.Sides.{Sides}
-use Rattle.rows.specs.Rows.{SmallAcc}
+use Rattle.rows.specs.Rows.{HasSlot, SmallAcc}
 use Rattle.rows.specs.Sides.{sideOf, NodeSides, Lifted}
-use Rattle.tables.specs.Tables.{Tables, headOf, manyOf, slotOf, Holds, Filled, liftOf}
+use Rattle.tables.specs.Tables.{Tables, headOf, manyOf, slotOf, Long, Holds, Filled, liftOf}
 use Rattle.tables.proofs.Trees.{width-few, width-more}
 use Rattle.tables.proofs.Bounds.{acc-small}
 
+-- the tables reach as far as a slot of the net
+pub plus-slot : {n : ℕ} {t : Tables} → Long n t → {k : ℕ} → k < n → HasSlot (t .rows) (t .plus) k
+plus-slot l h = record { row = omega (arith, l .rows); count = omega (arith, l .plus) }
+
+pub minus-slot : {n : ℕ} {t : Tables} → Long n t → {k : ℕ} → k < n → HasSlot (t .rows) (t .minus) k
+minus-slot l h = record { row = omega (arith, l .rows); count = omega (arith, l .minus) }
+
+pub still-slot : {rows rows′ counts : List ℕ} {k : ℕ} → length rows′ ≡ length rows → HasSlot rows counts k → HasSlot rows′ counts k
+still-slot e s = record { row = omega (arith, s .row); count = s .count }
+
 -- a slot in range whose numbers are small
 pub record Fit (t : Tables) (k : ℕ) : Type 0 where
-  pub low : k < 1025
+  pub node : k < 1025
+  pub low : k < length (t .many)
+  pub in-plus : HasSlot (t .rows) (t .plus) k
+  pub in-minus : HasSlot (t .rows) (t .minus) k
   pub few : manyOf t k ≤ 8
   pub plus : SmallAcc (slotOf t 0 k)
   pub minus : SmallAcc (slotOf t 1 k)
 
-pub fit : {c : Cell} → CellOk c → {n : Net} → SoundNet n → {t : Tables} {i v k : ℕ} → Holds (modelOf c) n t i v k → v < i → i ≤ places n → Fit t k
-fit {c} ok {n} s {t} {i} {v} {k} o lo hi = record {
-  low = o .low;
+pub fit : {c : Cell} → CellOk c → {n : Net} → SoundNet n → {t : Tables} → Long (places n) t → {i v k : ℕ} → Holds (modelOf c) n t i v k → v < i → i ≤ places n → Fit t k
+fit {c} ok {n} s {t} l {i} {v} {k} o lo hi = record {
+  node = omega (arith, o .low, s .few);
+  low = omega (arith, l .many, o .low);
+  in-plus = plus-slot l (o .low);
+  in-minus = minus-slot l (o .low);
   few = omega (arith, o .wide, width-few s (places n - i) v (omega arith));
   plus = subst SmallAcc (sym (o .row 0 (omega arith))) (acc-small (modelOf c) (ok .eq) (ok .pos) (ok .small) s (places n - i) v 0 (omega arith) (omega arith));
   minus = subst SmallAcc (sym (o .row 1 (omega arith))) (acc-small (modelOf c) (ok .eq) (ok .pos) (ok .small) s (places n - i) v 1 (omega arith) (omega arith));
@@ -48,7 +65,7 @@ module _ {c : Cell} (ok : CellOk c) {n : Net} (s : SoundNet n) {t : Tables} {i :
   own-holds = let m : max (suc i) (suc i) ≡ suc i = omega arith in subst (λ (z : ℕ). Holds (modelOf c) n t z i (headOf t i)) m (f .heads i h)
 
   pub own-fit : Fit t (headOf t i)
-  own-fit = fit ok s own-holds (omega arith) (omega arith)
+  own-fit = fit ok s (f .long) own-holds (omega arith) (omega arith)
 
   pub lower : parent n i < i
   lower = s .lower i lo h
@@ -58,7 +75,7 @@ module _ {c : Cell} (ok : CellOk c) {n : Net} (s : SoundNet n) {t : Tables} {i :
   next-holds = let m : max (suc i) (suc (parent n i)) ≡ suc i = omega (arith, lower) in subst (λ (z : ℕ). Holds (modelOf c) n t z (parent n i) (headOf t (parent n i))) m (f .heads (parent n i) (omega (arith, lower)))
 
   pub next-fit : Fit t (headOf t (parent n i))
-  next-fit = fit ok s next-holds (omega (arith, lower)) (omega arith)
+  next-fit = fit ok s (f .long) next-holds (omega (arith, lower)) (omega arith)
 
   pub next-few : manyOf t (headOf t (parent n i)) ≤ 7
   next-few = omega (arith, next-holds .wide, width-more s i (parent n i) h refl, width-few s (places n - i) (parent n i) (omega arith))

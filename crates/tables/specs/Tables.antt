@@ -74,21 +74,22 @@ manyOf t k = getD (t .many) k 0
 abbrev pub slotOf : Tables → ℕ → ℕ → Acc
 slotOf t p k = slot (t .rows) (counts t p) p (manyOf t k * 2) k
 
-pub record Long (t : Tables) : Type 0 where
-  pub rows : length (t .rows) ≡ 34850
-  pub many : length (t .many) ≡ 1025
-  pub next : length (t .next) ≡ 1025
-  pub head : length (t .head) ≡ 1025
-  pub plus : length (t .plus) ≡ 1025
-  pub plus-load : length (t .plus-load) ≡ 1025
-  pub plus-more : length (t .plus-more) ≡ 1025
-  pub minus : length (t .minus) ≡ 1025
-  pub minus-load : length (t .minus-load) ≡ 1025
-  pub minus-more : length (t .minus-more) ≡ 1025
+-- they reach as far as the n places of a net
+pub record Long (n : ℕ) (t : Tables) : Type 0 where
+  pub rows : n * 34 ≤ length (t .rows)
+  pub many : n ≤ length (t .many)
+  pub next : n ≤ length (t .next)
+  pub head : n ≤ length (t .head)
+  pub plus : n ≤ length (t .plus)
+  pub plus-load : n ≤ length (t .plus-load)
+  pub plus-more : n ≤ length (t .plus-more)
+  pub minus : n ≤ length (t .minus)
+  pub minus-load : n ≤ length (t .minus-load)
+  pub minus-more : n ≤ length (t .minus-more)
 
 -- the slot k is that of the wires from i on under v: the first of them, or 0 where there is none
 pub record Holds (τ : Cell) (n : Net) (t : Tables) (i v k : ℕ) : Type 0 where
-  pub low : k < 1025
+  pub low : k < places n
   pub fresh : 1 ≤ k → i ≤ k
   pub wide : manyOf t k ≡ width (hanging n (places n - i) v)
   pub row : (p : ℕ) → p ≤ 1 → slotOf t p k ≡ acc τ (hanging n (places n - i) v) p
@@ -101,7 +102,7 @@ Kept τ n t j p =
 
 -- each node's first slot holds its wires from i on, and each wire from i on has the slot of those after it
 pub record Filled (τ : Cell) (n : Net) (t : Tables) (i : ℕ) : Type 0 where
-  pub long : Long t
+  pub long : Long (places n) t
   pub heads : (v : ℕ) → v < places n → Holds τ n t (max i (suc v)) v (headOf t v)
   pub nexts : (j : ℕ) → i ≤ j → j < places n → Holds τ n t (suc j) (parent n j) (nextOf t j)
   pub kept : (j p : ℕ) → i ≤ j → j < places n → p ≤ 1 → Kept τ n t j p

@@ -39,10 +39,10 @@ module _ {c : Cell} (ok : CellOk c) {n : Net} (sound : SoundNet n) {t : Tables} 
   own = let m : max 1 (suc i) ≡ suc i = omega arith in subst (λ (z : ℕ). Holds (modelOf c) n t z i (headOf t i)) m (f .heads i h)
 
   pub own-fit : Fit t (headOf t i)
-  own-fit = fit ok sound own (omega arith) (omega arith)
+  own-fit = fit ok sound (f .long) own (omega arith) (omega arith)
 
   pub next-fit : Fit t (nextOf t i)
-  next-fit = fit ok sound (f .nexts i lo h) (omega (arith, sound .lower i lo h)) (omega arith)
+  next-fit = fit ok sound (f .long) (f .nexts i lo h) (omega (arith, sound .lower i lo h)) (omega arith)
 
   slot-small : (p : ℕ) → p ≤ 1 → SmallAcc (slotOf t p (nextOf t i))
   slot-small zero l = next-fit .plus

@@ -4,4 +4,5 @@ pub mod Going
 pub mod Placing
 pub mod Cutting
 pub mod Deciding
+pub mod Noting
 pub mod UnderWay

@@ -14,6 +14,38 @@ use Rattle.cuts.specs.declared.Cut.{Cut}
 use Rattle.cuts.specs.Choice.{f3, Budgeted}
 use Rattle.cuts.specs.Offsets.{offsets}
 
+-- the walk's table has five numbers for each place: the polarity of the node and the surplus left there;
+-- and, of the wire above it, the load under its repeaters, how many of them stand by spacing and how many at its upper end
+abbrev pub senseAt : List ℕ → ℕ → ℕ
+senseAt t v = getD t (v * 5) 0
+
+abbrev pub leftAt : List ℕ → ℕ → ℕ
+leftAt t v = getD t (v * 5 + 1) 0
+
+abbrev pub belowAt : List ℕ → ℕ → ℕ
+belowAt t i = getD t (i * 5 + 2) 0
+
+abbrev pub spacedAt : List ℕ → ℕ → ℕ
+spacedAt t i = getD t (i * 5 + 3) 0
+
+abbrev pub toppedAt : List ℕ → ℕ → ℕ
+toppedAt t i = getD t (i * 5 + 4) 0
+
+-- the cut z of wire i under v is noted, what it takes of the surplus at v is gone, and every other place is as it was
+pub record Noted (t t′ : List ℕ) (v i : ℕ) (z : Cut) : Type 0 where
+  pub long : length t′ ≡ length t
+  pub sense : senseAt t′ i ≡ z .sense
+  pub left : leftAt t′ i ≡ z .left
+  pub below : belowAt t′ i ≡ z .below
+  pub spaced : spacedAt t′ i ≡ z .spaced
+  pub topped : toppedAt t′ i ≡ z .topped
+  pub rest : leftAt t′ v ≡ leftAt t v - z .taken
+  pub other-sense : (u : ℕ) → (u ≡ i → ⊥) → senseAt t′ u ≡ senseAt t u
+  pub other-left : (u : ℕ) → (u ≡ i → ⊥) → (u ≡ v → ⊥) → leftAt t′ u ≡ leftAt t u
+  pub other-below : (j : ℕ) → (j ≡ i → ⊥) → belowAt t′ j ≡ belowAt t j
+  pub other-spaced : (j : ℕ) → (j ≡ i → ⊥) → spacedAt t′ j ≡ spacedAt t j
+  pub other-topped : (j : ℕ) → (j ≡ i → ⊥) → toppedAt t′ j ≡ toppedAt t j
+
 -- the count c and the load l are within what x says of the surplus e
 abbrev pub Within : Acc → ℕ → ℕ → ℕ → Type 0
 Within fail c l e = ⊥
@@ -53,10 +85,10 @@ pub record Decided (τ : Cell) (n : Net) (p e i : ℕ) (z : Cut) : Type 0 where
       → t .n i ≡ under → t .b i ≡ z .below → WireOk τ n t p i (z .sense) (z .left) (kind n i)
 
 -- the offsets that the decisions give each wire
-abbrev pub offsOf : Cell → Net → List ℕ → List ℕ → List ℕ → ℕ → List ℕ
-offsOf τ n below spaced topped i = offsets τ (wire n i) (getD below i 0) (getD spaced i 0) (getD topped i 0)
+abbrev pub offsOf : Cell → Net → List ℕ → ℕ → List ℕ
+offsOf τ n t i = offsets τ (wire n i) (belowAt t i) (spacedAt t i) (toppedAt t i)
 
 -- they settle the tree from the source's polarity p with its surplus e
-pub record Walked (τ : Cell) (n : Net) (p e : ℕ) (below spaced topped : List ℕ) : Type 0 where
+pub record Walked (τ : Cell) (n : Net) (p e : ℕ) (t : List ℕ) : Type 0 where
   pub settles : (N h h₁ : ℕ) → close τ (2 * width (tree n)) (acc τ (tree n) p) ≡ has N h h₁ → Budgeted (acc τ (tree n) p) e N h
-      → Settled τ p (tree n) (planOf (offsOf τ n below spaced topped) (tree n)) × (count (tree n) (planOf (offsOf τ n below spaced topped) (tree n)) ≤ N)
+      → Settled τ p (tree n) (planOf (offsOf τ n t) (tree n)) × (count (tree n) (planOf (offsOf τ n t) (tree n)) ≤ N)

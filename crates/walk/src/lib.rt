@@ -3,14 +3,14 @@ use cuts::Cut;
 use states::Cell;
 ghost use mathlib.Core.Path.{_≡_};
 ghost use Prim.Native.Nat.{ℕ, suc, _+_, _-_, _*_, _<_, _≤_};
-ghost use lib.ListN.{length, getD, set};
+ghost use lib.ListN.{length};
 ghost use Rattle.net.specs.Net.{netAt};
 ghost use Rattle.net.specs.Tree.{tree};
 ghost use Rattle.net.specs.Sound.{SoundNet};
 ghost use Rattle.frontier.specs.Frontier.{acc};
 ghost use Rattle.states.specs.States.{modelOf, limitsOf, CellOk};
 ghost use Rattle.tables.specs.Tables.{tablesAt, Filled};
-ghost use Rattle.walk.specs.Walk.{Alive, Parts, Decided, Walked};
+ghost use Rattle.walk.specs.Walk.{senseAt, leftAt, Alive, Parts, Decided, Noted, Walked};
 
 // The cut of wire i under a point of polarity p, for a surplus of e there.
 pub fn decide(
@@ -20,16 +20,16 @@ pub fn decide(
     kind: &[u8],
     pin: &[u32],
     polarity: &[u8],
-    rows: &[u32; 34850],
-    many: &[usize; 1025],
-    next: &[usize; 1025],
-    head: &[usize; 1025],
-    plus: &[u64; 1025],
-    plus_load: &[u64; 1025],
-    plus_more: &[u64; 1025],
-    minus: &[u64; 1025],
-    minus_load: &[u64; 1025],
-    minus_more: &[u64; 1025],
+    rows: &[u32],
+    many: &[usize],
+    next: &[usize],
+    head: &[usize],
+    plus: &[u64],
+    plus_load: &[u64],
+    plus_more: &[u64],
+    minus: &[u64],
+    minus_load: &[u64],
+    minus_more: &[u64],
     p: usize,
     e: usize,
     i: usize,
@@ -62,29 +62,20 @@ pub fn decide(
     cuts::cut_wire(c, w, y, x, rows, last, k, 1, g)
 }
 
-// The cut of wire i under v, kept: the wires after it under v have the rest of the surplus.
-pub fn settle(
-    sense: &mut [usize; 1025],
-    left: &mut [usize; 1025],
-    below: &mut [u64; 1025],
-    spaced: &mut [u64; 1025],
-    topped: &mut [u64; 1025],
-    v: usize,
-    i: usize,
-    z: Cut,
-)
-    requires { ⌜ (length (now sense) ≡ 1025) × (length (now left) ≡ 1025) × (length (now below) ≡ 1025) × (length (now spaced) ≡ 1025) × (length (now topped) ≡ 1025) ⌝ }
-    requires { ⌜ (v < 1025) × (i < 1025) × (z .taken ≤ getD (now left) v 0) ⌝ }
-    ensures { λ r. ⌜ (now (sense .exit) ≡ set (now (sense .entry)) i (z .sense)) × (now (left .exit) ≡ set (set (now (left .entry)) v (getD (now (left .entry)) v 0 - z .taken)) i (z .left)) ⌝ }
-    ensures { λ r. ⌜ (now (below .exit) ≡ set (now (below .entry)) i (z .below)) × (now (spaced .exit) ≡ set (now (spaced .entry)) i (z .spaced)) × (now (topped .exit) ≡ set (now (topped .entry)) i (z .topped)) ⌝ }
+// The cut of wire i under v, noted: the wires after it under v have the rest of the surplus.
+pub fn settle(walked: &mut [u64], v: usize, i: usize, z: Cut)
+    requires { ⌜ (i * 5 + 5 ≤ length (now walked)) × (v < i) × (z .taken ≤ leftAt (now walked) v) ⌝ }
+    ensures { λ r. ⌜ Noted (now (walked .entry)) (now (walked .exit)) v i z ⌝ }
 {
-    let e = left[v];
-    left[v] = e - z.taken;
-    left[i] = z.left;
-    sense[i] = z.sense;
-    below[i] = z.below;
-    spaced[i] = z.spaced;
-    topped[i] = z.topped;
+    let from = v * 5 + 1;
+    let e = walked[from];
+    walked[from] = e - z.taken as u64;
+    let at = i * 5;
+    walked[at] = z.sense as u64;
+    walked[at + 1] = z.left as u64;
+    walked[at + 2] = z.below;
+    walked[at + 3] = z.spaced;
+    walked[at + 4] = z.topped;
 }
 
 // All of them, from the source's polarity and surplus, which stand at place 0.
@@ -95,33 +86,28 @@ pub fn descend(
     kind: &[u8],
     pin: &[u32],
     polarity: &[u8],
-    rows: &[u32; 34850],
-    many: &[usize; 1025],
-    next: &[usize; 1025],
-    head: &[usize; 1025],
-    plus: &[u64; 1025],
-    plus_load: &[u64; 1025],
-    plus_more: &[u64; 1025],
-    minus: &[u64; 1025],
-    minus_load: &[u64; 1025],
-    minus_more: &[u64; 1025],
-    sense: &mut [usize; 1025],
-    left: &mut [usize; 1025],
-    below: &mut [u64; 1025],
-    spaced: &mut [u64; 1025],
-    topped: &mut [u64; 1025],
+    rows: &[u32],
+    many: &[usize],
+    next: &[usize],
+    head: &[usize],
+    plus: &[u64],
+    plus_load: &[u64],
+    plus_more: &[u64],
+    minus: &[u64],
+    minus_load: &[u64],
+    minus_more: &[u64],
+    walked: &mut [u64],
 )
     requires { ⌜ CellOk c × SoundNet (netAt (limitsOf c) parent wire kind pin polarity) × Filled (modelOf c) (netAt (limitsOf c) parent wire kind pin polarity) (tablesAt rows many next head plus «plus_load» «plus_more» minus «minus_load» «minus_more») 1 ⌝ }
-    requires { ⌜ (length (now sense) ≡ 1025) × (length (now left) ≡ 1025) × (length (now below) ≡ 1025) × (length (now spaced) ≡ 1025) × (length (now topped) ≡ 1025) ⌝ }
-    requires { ⌜ (getD (now sense) 0 0 ≤ 1) × Alive (acc (modelOf c) (tree (netAt (limitsOf c) parent wire kind pin polarity)) (getD (now sense) 0 0)) ⌝ }
-    ensures { λ r. ⌜ Walked (modelOf c) (netAt (limitsOf c) (parent .entry) (wire .entry) (kind .entry) (pin .entry) (polarity .entry)) (getD (now (sense .entry)) 0 0) (getD (now (left .entry)) 0 0) (now (below .exit)) (now (spaced .exit)) (now (topped .exit)) ⌝ }
-    ensures { λ r. ⌜ (length (now (below .exit)) ≡ 1025) × (length (now (spaced .exit)) ≡ 1025) × (length (now (topped .exit)) ≡ 1025) ⌝ }
+    requires { ⌜ (length (now parent) * 5 ≤ length (now walked)) × (senseAt (now walked) 0 ≤ 1) × Alive (acc (modelOf c) (tree (netAt (limitsOf c) parent wire kind pin polarity)) (senseAt (now walked) 0)) ⌝ }
+    ensures { λ r. ⌜ Walked (modelOf c) (netAt (limitsOf c) (parent .entry) (wire .entry) (kind .entry) (pin .entry) (polarity .entry)) (senseAt (now (walked .entry)) 0) (leftAt (now (walked .entry)) 0) (now (walked .exit)) ⌝ }
 {
     let mut i: usize = 1;
     while i < parent.len() {
         let v = parent[i] as usize;
-        let p = sense[v];
-        let e = left[v];
+        let k = v * 5;
+        let p = walked[k] as usize;
+        let e = walked[k + 1] as usize;
         let z = decide(
             c,
             parent,
@@ -143,7 +129,7 @@ pub fn descend(
             e,
             i,
         );
-        settle(sense, left, below, spaced, topped, v, i, z);
+        settle(walked, v, i, z);
         i += 1;
     }
 }

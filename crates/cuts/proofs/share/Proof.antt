@@ -10,45 +10,24 @@ use Rattle.cuts.proofs.share.Tie as tie
 returns : tie.Need-returns
 returns c = share-0 _ _ _ _ _ (c .if1 .taken)
 
-load-at-requires : tie.Need-load-at-requires
-load-at-requires c κs = search needs
-
 add-x : tie.Need-add-x
-add-x c = let s = c .before .before in omega (arith, c .load-at .ensures, s .pre .1 .1 (s .args .e))
-
-sub-load-at : tie.Need-sub-load-at
-sub-load-at c = search needs
-
-load-at-requires-2 : tie.Need-load-at-requires-2
-load-at-requires-2 c κs = search needs
+add-x c = let s = c .before .before .before in omega (arith, c .load-at .ensures, s .pre .1 .1 (s .args .e))
 
 add-y : tie.Need-add-y
-add-y c = let s = c .before .before .before in omega (arith, c .load-at2 .ensures, s .pre .1 .1 (s .args .e - 1))
-
-lesser-requires : tie.Need-lesser-requires
-lesser-requires c κs = search needs
+add-y c = let s = c .before .before .before .before in omega (arith, c .load-at2 .ensures, s .pre .1 .1 (s .args .e - 1))
 
 returns-2 : tie.Need-returns-2
 returns-2 c =
-    let s = c .before .before .before .before .before in
+    let s = c .before .before .before .before .before .before in
     let g = loadAt (s .args .rows .now) (s .args .at) (s .args .last) in
     share-1 g (s .args .a) (s .args .b) (s .args .f) (s .args .e) _ (c .before .if2 .taken) (c .lesser .ensures .0) (rw (c .before .before .before .load-at .ensures, c .before .before .load-at2 .ensures) at (c .lesser .ensures .1))
 
-sub-load-at-2 : tie.Need-sub-load-at-2
-sub-load-at-2 c = search needs
-
-load-at-requires-3 : tie.Need-load-at-requires-3
-load-at-requires-3 c κs = search needs
-
 add-z : tie.Need-add-z
-add-z c = let s = c .before .before .before .before .before in omega (arith, c .load-at3 .ensures, s .pre .1 .1 (s .args .e - 2))
-
-least-of-requires : tie.Need-least-of-requires
-least-of-requires c κs = search needs
+add-z c = let s = c .before .before .before .before .before .before in omega (arith, c .load-at3 .ensures, s .pre .1 .1 (s .args .e - 2))
 
 returns-3 : tie.Need-returns-3
 returns-3 c =
-    let s = c .before .before .before .before .before .before in
+    let s = c .before .before .before .before .before .before .before in
     let g = loadAt (s .args .rows .now) (s .args .at) (s .args .last) in
     share-2 g (s .args .a) (s .args .b) (s .args .f) (s .args .e) _ (c .before .before .before .before .before .if1 .left) (c .before .before .if2 .left) (c .least-of .ensures .0) (rw (c .before .before .before .before .load-at .ensures, c .before .before .before .load-at2 .ensures, c .before .load-at3 .ensures) at (c .least-of .ensures .1))
 
@@ -57,15 +36,15 @@ share-spec =
     tie.close
     (tie.spec
     returns
-    load-at-requires
+    (λ c κs. search needs)
     add-x
-    sub-load-at
-    load-at-requires-2
+    (λ c. search needs)
+    (λ c κs. search needs)
     add-y
-    lesser-requires
+    (λ c κs. search needs)
     returns-2
-    sub-load-at-2
-    load-at-requires-3
+    (λ c. search needs)
+    (λ c κs. search needs)
     add-z
-    least-of-requires
+    (λ c κs. search needs)
     returns-3)

@@ -4,23 +4,8 @@ use Rattle.cuts.proofs.Aiming.{budget-0, budget-up, budget-stay}
 use Rattle.cuts.proofs.surplus.Statement.{statement}
 use Rattle.cuts.proofs.surplus.Tie as tie
 
-first-fit-requires : tie.Need-first-fit-requires
-first-fit-requires c κs = search needs
-
 returns : tie.Need-returns
 returns c = budget-0 _ _ _ _ _ (c .before .first-fit .ensures) _ (c .if1 .taken)
-
-load-at-requires : tie.Need-load-at-requires
-load-at-requires c κs = search needs
-
-add-load-at : tie.Need-add-load-at
-add-load-at c = search needs
-
-load-at-requires-2 : tie.Need-load-at-requires-2
-load-at-requires-2 c κs = search needs
-
-add-result : tie.Need-add-result
-add-result c = search needs
 
 returns-2 : tie.Need-returns-2
 returns-2 c = budget-up _ _ _ _ _ (c .before .before .before .before .first-fit .ensures) _ (c .before .before .before .if1 .left) (rw (c .before .before .load-at .ensures, c .before .load-at2 .ensures) at (c .if2 .taken))
@@ -32,11 +17,11 @@ pub surplus-spec : {M : Type 1} → statement M
 surplus-spec =
     tie.close
     (tie.spec
-    first-fit-requires
+    (λ c κs. search needs)
     returns
-    load-at-requires
-    add-load-at
-    load-at-requires-2
-    add-result
+    (λ c κs. search needs)
+    (λ c. search needs)
+    (λ c κs. search needs)
+    (λ c. search needs)
     returns-2
     returns-3)

@@ -15,36 +15,15 @@ Inv-loop rows at last limit e₀ e = (e ≤ suc last) × ((k : ℕ) → k < e �
 abbrev μ-loop : tie.MeasureT-loop
 μ-loop rows at last limit e₀ e = suc last - e
 
-loop-holds : tie.Need-loop-holds Inv-loop μ-loop
-loop-holds c = search needs
-
-add-wide : tie.Need-add-wide Inv-loop μ-loop
-add-wide c = search needs
-
-mul-wide : tie.Need-mul-wide Inv-loop μ-loop
-mul-wide c = search needs
-
-element-copy-out-wide : tie.Need-element-copy-out-wide Inv-loop μ-loop
-element-copy-out-wide c = search needs
-
-wide-requires : tie.Need-wide-requires Inv-loop μ-loop
-wide-requires c κs = search needs
-
 returns : tie.Need-returns Inv-loop μ-loop
 returns c =
-    let s = c .before .before .before .before .before .args in
+    let s = c .before .before .before .before .before .before .args in
     let l = c .before .before .before .before .loop in
     record { few = omega arith; over = l .inv .1; fits = λ h. rw (sym (load-within (s .rows .now) (s .at) (s .last) (l .e) h)) (omega (arith, c .before .wide .ensures)) }
 
-add-e : tie.Need-add-e Inv-loop μ-loop
-add-e c = search needs
-
-loop-less : tie.Need-loop-less Inv-loop μ-loop
-loop-less c = search needs
-
 loop-again : tie.Need-loop-again Inv-loop μ-loop
 loop-again c =
-    let s = c .before .before .before .before .before .args in
+    let s = c .before .before .before .before .before .before .args in
     let l = c .before .before .before .before .loop in
     let q = load-within (s .rows .now) (s .at) (s .last) (l .e) (omega arith) in
     (omega arith, below-more (λ k. s .limit < loadAt (s .rows .now) (s .at) (s .last) k) (l .e) (l .inv .1) (rw (sym q) (omega (arith, c .before .wide .ensures))))
@@ -58,13 +37,13 @@ first-fit-spec =
     (tie.spec
     Inv-loop
     μ-loop
-    loop-holds
-    add-wide
-    mul-wide
-    element-copy-out-wide
-    wide-requires
+    (λ c. search needs)
+    (λ c. search needs)
+    (λ c. search needs)
+    (λ c. search needs)
+    (λ c κs. search needs)
     returns
-    add-e
-    loop-less
+    (λ c. search needs)
+    (λ c. search needs)
     loop-again
     returns-2)

@@ -17,44 +17,26 @@ abbrev μ-loop : tie.MeasureT-loop
 loop-holds : tie.Need-loop-holds Inv-loop μ-loop
 loop-holds c = mixing-none _ _ _ _ _ _ _
 
-add-loop : tie.Need-add-loop Inv-loop μ-loop
-add-loop c = search needs
-
 mixed-at-requires : tie.Need-mixed-at-requires Inv-loop μ-loop
 mixed-at-requires c κs =
-    let s = c .before .before .before in
+    let s = c .before .before .before .before in
     let m = c .before .before .loop .inv in
-    ((omega (arith, m .long), s .pre .0 .1), (s .pre .1 .1 .0, mixing-small m (s .pre .1 .0) 2000000000 (s .pre .1 .1 .1)))
-
-add-k : tie.Need-add-k Inv-loop μ-loop
-add-k c = search needs
+    (omega (arith, m .long, s .pre .0 .0), (s .pre .1 .1 .0, mixing-small m (s .pre .1 .0) 2000000000 (s .pre .1 .1 .1)))
 
 cast-rows : tie.Need-cast-rows Inv-loop μ-loop
 cast-rows c =
-    let s = c .before .before .before .before in
+    let s = c .before .before .before .before .before in
     let l = c .before .before .before .loop in
     omega (arith, c .mixed-at .ensures, mixed-le (loadAt (l .rows) (s .args .from) (s .args .last)) (s .args .a) (s .args .b) (s .args .c) 2000000000 (mixing-small (l .inv) (s .pre .1 .0) 2000000000 (s .pre .1 .1 .1)) (l .e))
 
-mul-rows : tie.Need-mul-rows Inv-loop μ-loop
-mul-rows c = search needs
-
-element-write-rows : tie.Need-element-write-rows Inv-loop μ-loop
-element-write-rows c = search needs
-
-add-e : tie.Need-add-e Inv-loop μ-loop
-add-e c = search needs
-
-loop-less : tie.Need-loop-less Inv-loop μ-loop
-loop-less c = search needs
-
 loop-again : tie.Need-loop-again Inv-loop μ-loop
 loop-again c =
-    let s = c .before .before .before .before in
+    let s = c .before .before .before .before .before in
     let m = c .before .before .before .loop .inv in
     mixing-more m (s .pre .1 .0) _ (c .mixed-at .ensures) (omega arith) (omega arith)
 
 returns : tie.Need-returns Inv-loop μ-loop
-returns c = mixing-all (c .before .loop .inv) (c .before .before .pre .1 .0) (omega arith)
+returns c = mixing-all (c .before .loop .inv) (c .before .before .before .pre .1 .0) (omega arith)
 
 pub mix-spec : {M : Type 1} → statement M
 mix-spec =
@@ -63,13 +45,14 @@ mix-spec =
     Inv-loop
     μ-loop
     loop-holds
-    add-loop
+    (λ c. search needs)
     mixed-at-requires
-    add-k
+    (λ c. search needs)
     cast-rows
-    mul-rows
-    element-write-rows
-    add-e
-    loop-less
+    (λ c. search needs)
+    (λ c. search needs)
+    (λ c. search needs)
+    (λ c. search needs)
     loop-again
+    (λ c. search needs)
     returns)

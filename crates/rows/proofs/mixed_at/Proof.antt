@@ -7,54 +7,30 @@ use Rattle.rows.proofs.Reading.{mixed-0, mixed-1, mixed-2}
 use Rattle.rows.proofs.mixed_at.Statement.{statement}
 use Rattle.rows.proofs.mixed_at.Tie as tie
 
-load-at-requires : tie.Need-load-at-requires
-load-at-requires c κs = search needs
-
 add-x : tie.Need-add-x
-add-x c = omega (arith, c .load-at .ensures, c .before .pre .1 .1 (c .before .args .e))
+add-x c = omega (arith, c .load-at .ensures, c .before .before .pre .1 .1 (c .before .before .args .e))
 
 returns : tie.Need-returns
 returns c =
-    let s = c .before .before in
+    let s = c .before .before .before in
     let g = loadAt (s .args .rows .now) (s .args .at) (s .args .last) in
     rw (c .before .load-at .ensures) (mixed-0 g (s .args .a) (s .args .b) (s .args .c) (s .args .e) (c .if1 .taken))
 
-sub-load-at : tie.Need-sub-load-at
-sub-load-at c = search needs
-
-load-at-requires-2 : tie.Need-load-at-requires-2
-load-at-requires-2 c κs = search needs
-
 add-y : tie.Need-add-y
-add-y c = omega (arith, c .load-at2 .ensures, c .before .before .before .pre .1 .1 (c .before .before .before .args .e - 1))
-
-least-requires : tie.Need-least-requires
-least-requires c κs = search needs
+add-y c = omega (arith, c .load-at2 .ensures, c .before .before .before .before .pre .1 .1 (c .before .before .before .before .args .e - 1))
 
 returns-2 : tie.Need-returns-2
 returns-2 c =
-    let s = c .before .before .before .before .before in
+    let s = c .before .before .before .before .before .before in
     let g = loadAt (s .args .rows .now) (s .args .at) (s .args .last) in
     rw (c .least .ensures, c .before .before .before .before .load-at .ensures, c .before .before .load-at2 .ensures) (mixed-1 g (s .args .a) (s .args .b) (s .args .c) (s .args .e) (c .before .if2 .taken))
 
-sub-load-at-2 : tie.Need-sub-load-at-2
-sub-load-at-2 c = search needs
-
-load-at-requires-3 : tie.Need-load-at-requires-3
-load-at-requires-3 c κs = search needs
-
 add-z : tie.Need-add-z
-add-z c = omega (arith, c .load-at3 .ensures, c .before .before .before .before .before .pre .1 .1 (c .before .before .before .before .before .args .e - 2))
-
-least-requires-2 : tie.Need-least-requires-2
-least-requires-2 c κs = search needs
-
-least-requires-3 : tie.Need-least-requires-3
-least-requires-3 c κs = search needs
+add-z c = omega (arith, c .load-at3 .ensures, c .before .before .before .before .before .before .pre .1 .1 (c .before .before .before .before .before .before .args .e - 2))
 
 returns-3 : tie.Need-returns-3
 returns-3 c =
-    let s = c .before .before .before .before .before .before .before in
+    let s = c .before .before .before .before .before .before .before .before in
     let g = loadAt (s .args .rows .now) (s .args .at) (s .args .last) in
     rw (c .least3 .ensures, c .before .least2 .ensures, c .before .before .before .before .before .before .load-at .ensures, c .before .before .before .before .load-at2 .ensures, c .before .before .load-at3 .ensures)
     (mixed-2 g (s .args .a) (s .args .b) (s .args .c) (s .args .e) (c .before .before .before .before .before .if1 .left) (c .before .before .before .if2 .left))
@@ -63,17 +39,17 @@ pub mixed-at-spec : {M : Type 1} → statement M
 mixed-at-spec =
     tie.close
     (tie.spec
-    load-at-requires
+    (λ c κs. search needs)
     add-x
     returns
-    sub-load-at
-    load-at-requires-2
+    (λ c. search needs)
+    (λ c κs. search needs)
     add-y
-    least-requires
+    (λ c κs. search needs)
     returns-2
-    sub-load-at-2
-    load-at-requires-3
+    (λ c. search needs)
+    (λ c κs. search needs)
     add-z
-    least-requires-2
-    least-requires-3
+    (λ c κs. search needs)
+    (λ c κs. search needs)
     returns-3)

@@ -8,33 +8,9 @@ use Rattle.solver.proofs.Rooting.{source-budget}
 use Rattle.solver.proofs.at_source.Statement.{statement}
 use Rattle.solver.proofs.at_source.Tie as tie
 
-close-requires : tie.Need-close-requires
-close-requires c κs = search needs
-
-close-requires-2 : tie.Need-close-requires-2
-close-requires-2 c κs = search needs
-
-lighter-requires : tie.Need-lighter-requires
-lighter-requires c κs = search needs
-
-mul-surplus : tie.Need-mul-surplus
-mul-surplus c = search needs
-
-mul-surplus-2 : tie.Need-mul-surplus-2
-mul-surplus-2 c = search needs
-
-add-surplus : tie.Need-add-surplus
-add-surplus c = search needs
-
-surplus-requires : tie.Need-surplus-requires
-surplus-requires c κs = search needs
-
-merge-requires : tie.Need-merge-requires
-merge-requires c κs = search needs
-
 returns : tie.Need-returns
 returns c =
-    let s = c .before .before .before .before .before .args in
+    let s = c .before .before .before .before .before .before .before .before .args in
     let x = c .before .before .before .before .close .ensures .0 in
     let y = c .before .before .before .close2 .ensures .0 in
     record {
@@ -47,12 +23,12 @@ pub at-source-spec : {M : Type 1} → statement M
 at-source-spec =
     tie.close
     (tie.spec
-    close-requires
-    close-requires-2
-    lighter-requires
-    mul-surplus
-    mul-surplus-2
-    add-surplus
-    surplus-requires
-    merge-requires
+    (λ c κs. search needs)
+    (λ c κs. search needs)
+    (λ c κs. search needs)
+    (λ c. search needs)
+    (λ c. search needs)
+    (λ c. search needs)
+    (λ c κs. search needs)
+    (λ c κs. search needs)
     returns)

@@ -1,40 +1,55 @@
 -- From the source the walk settles the tree with at most the least count, so what is written is a least placement.
 use native.Mathlib.Omega.{arith}
-use mathlib.Core.Path.{refl}
+use Prim.Native.Nat.{_≤_}
+use mathlib.Core.Path.{refl, _∙_}
+use lib.ListN.{length, length-set}
 use borrow.Author.Needs.{needs}
-use Rattle.solver.proofs.Rooting.{rooted-alive, walked-least, outcome-placed}
+use Rattle.solver.proofs.Rooting.{walked-least, outcome-placed, begun-alive, begun-walked}
 use Rattle.solver.proofs.place.Statement.{statement}
 use Rattle.solver.proofs.place.Tie as tie
 
-array-write-sense : tie.Need-array-write-sense
-array-write-sense c = search needs
+slice-write-walked : tie.Need-slice-write-walked
+slice-write-walked c = let s = c .before .before .before .before .before .before .before .before .before .before .before .before .before .before .before .before .before .before in omega (arith, s .pre .0 .1 .some, s .pre .1 .0)
 
-array-write-left : tie.Need-array-write-left
-array-write-left c = search needs
+slice-write-walked-2 : tie.Need-slice-write-walked-2
+slice-write-walked-2 c = let s = c .before .before .before .before .before .before .before .before .before .before .before .before .before .before .before .before .before .before in simp length-set (omega (arith, s .pre .0 .1 .some, s .pre .1 .0))
 
 descend-requires : tie.Need-descend-requires
-descend-requires c κs = let s = c .before .before .before .before .before .before .before .before .before .before .before .before in let ok = s .pre .0 .0 in let sound = s .pre .0 .1 in let f = s .pre .0 .2 in let r = s .pre .1 .0 in ((ok, sound, f), ((refl, refl, refl, refl, refl), (r .few, rooted-alive r)))
+descend-requires c κs =
+    let s = c .before .before .before .before .before .before .before .before .before .before .before .before .before .before .before .before .before .before .before in
+    let long : 2 ≤ length (s .args .walked .now) = omega (arith, s .pre .0 .1 .some, s .pre .1 .0) in
+    let a = begun-alive (s .args .walked .now) (s .args .p) (s .args .e) long (s .pre .1 .1) in
+    (s .pre .0, (simp length-set (s .pre .1 .0), a .0, a .1))
 
 write-all-requires : tie.Need-write-all-requires
-write-all-requires c κs = let s = c .before .before .before .before .before .before .before .before .before .before .before .before .before .before .before .before .before .before in let ok = s .pre .0 .0 in let sound = s .pre .0 .1 in let f = s .pre .0 .2 in let r = s .pre .1 .0 in let d = c .before .before .before .before .before .descend .ensures in let x = walked-least ok sound refl r (d .0) in ((ok, sound, d .1 .0, d .1 .1, d .1 .2), (omega (arith, x .1, s .pre .1 .1), omega (arith, x .1, s .pre .1 .1)))
+write-all-requires c κs =
+    let s = c .before .before .before .before .before .before .before .before .before .before .before .before .before .before .before .before .before .before .before .before .before .before .before .before .before in
+    let ok = s .pre .0 .0 in
+    let sound = s .pre .0 .1 in
+    let long : 2 ≤ length (s .args .walked .now) = omega (arith, sound .some, s .pre .1 .0) in
+    let x = walked-least ok sound refl (s .pre .1 .1) (begun-walked (s .args .walked .now) (s .args .p) (s .args .e) long (c .before .before .before .before .before .descend .ensures)) in
+    ((ok, sound, omega (arith, simp length-set at (c .before .before .before .before .walked .given), s .pre .1 .0)), (omega (arith, x .1, s .pre .1 .2), omega (arith, x .1, s .pre .1 .2)))
 
 same-length : tie.Need-same-length
-same-length c = search needs
-
-same-length-2 : tie.Need-same-length-2
-same-length-2 c = search needs
+same-length c = simp length-set at (c .before .before .before .before .before .before .before .before .before .walked .given)
 
 returns : tie.Need-returns
-returns c = let s = c .before .before .before .before .before .before .before .before .before .before .before .before .before .before .before .before .before .before .before .before .before .before .before in let ok = s .pre .0 .0 in let sound = s .pre .0 .1 in let f = s .pre .0 .2 in let r = s .pre .1 .0 in let e = c .before .before .before .before .write-all .ensures in outcome-placed ok sound refl r (c .before .before .before .before .before .before .before .before .before .before .descend .ensures .0) (s .pre .1 .1) (e .0) (e .1)
+returns c =
+    let s = c .before .before .before .before .before .before .before .before .before .before .before .before .before .before .before .before .before .before .before .before .before .before .before .before .before .before .before .before .before .before in
+    let sound = s .pre .0 .1 in
+    let long : 2 ≤ length (s .args .walked .now) = omega (arith, sound .some, s .pre .1 .0) in
+    let e = c .before .before .before .before .write-all .ensures in
+    outcome-placed (s .pre .0 .0) sound refl (s .pre .1 .1) (begun-walked (s .args .walked .now) (s .args .p) (s .args .e) long (c .before .before .before .before .before .before .before .before .before .before .descend .ensures)) (s .pre .1 .2) (e .0) (e .1)
 
 pub place-spec : {M : Type 1} → statement M
 place-spec =
     tie.close
     (tie.spec
-    array-write-sense
-    array-write-left
+    slice-write-walked
+    slice-write-walked-2
     descend-requires
     write-all-requires
     same-length
-    same-length-2
+    (λ c. search needs)
+    (λ c. search needs)
     returns)
