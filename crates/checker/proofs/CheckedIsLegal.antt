@@ -120,7 +120,7 @@ module _ (n : Net) (offs : ℕ → List ℕ) where
     same = λ i s. sense-met (sense n offs lowest) i (each-met (hasSense n offs (sense n offs lowest)) (places n - 1) 1 x i (s .node) (omega (arith, s .within, s .node))) (s .sink);
   }
 
-  one-sense : OneSense n offs → oneSense n offs ≡ Sound
+  pub one-sense : OneSense n offs → oneSense n offs ≡ Sound
   one-sense o = each-sound (hasSense n offs (sense n offs lowest)) (places n - 1) 1 (λ j lo hi. sense-sound (sense n offs lowest) j (as-lowest j lo hi))
     where
       as-lowest : (j : ℕ) → 1 ≤ j → j < 1 + (places n - 1) → kind n j ≡ 1 → sense n offs j ≡ sense n offs lowest

@@ -6,7 +6,7 @@ use native.Mathlib.Omega.{arith}
 use lib.Dec.{eqb, leb}
 use lib.ListN.{length}
 use lib.Seq.{sets}
-use borrow.Author.Tests.{eqb-true, le-leb, lt-leb}
+use borrow.Author.Tests.{eqb-true, leb-true, le-leb, lt-leb}
 use Rattle.net.specs.declared.Judged.{Judged}
 use Rattle.net.specs.declared.Judged.the-variants.{Sound, Refused}
 use Rattle.net.specs.declared.Refusal.{Refusal}
@@ -20,13 +20,11 @@ use Rattle.net.specs.Judge.{unless, thenJudge, judged}
 use Rattle.net.specs.Checked.{placementFits, placedFrom, withinLimit, oneSense, placementJudged, checked}
 use Rattle.net.proofs.Tests.{both-met, unless-met, then-met}
 use Rattle.net.proofs.SoundSays.{sound-says}
-use Rattle.load.specs.First.{Rising, Firsts}
 use Rattle.load.specs.Asks.{Placed}
-use Rattle.load.proofs.Order.{rising}
 use Rattle.load.proofs.Wire.{driven-length}
 use Rattle.checker.specs.declared.Verdict.{Verdict}
 use Rattle.checker.specs.declared.Listed.{Listed}
-use Rattle.checker.specs.Stands.{stood, begun, Stood, HasWires}
+use Rattle.checker.specs.Stands.{stood, begun, HasWires}
 use Rattle.checker.specs.Verdict.{verdictOf, settled, weighed, verdict}
 use Rattle.checker.specs.Listing.{ListedIs}
 use Rattle.checker.proofs.CheckedIsLegal.{placed-order}
@@ -46,25 +44,18 @@ module _ (n : Net) (vs os : List ℕ) where
     pub then-stood : (b : Judged) → b ≡ stood n vs os → b ≡ begun n vs os
     then-stood b eb = rw (← ea, sa) eb
 
-  pub begun-says : (b : Judged) → b ≡ begun n vs os → b ≡ Sound → Stood n vs os
+  pub begun-says : (b : Judged) → b ≡ begun n vs os → b ≡ Sound → Placed n vs os
   begun-says b eb sb =
       let (s, x) = then-met (judged n) (stood n vs os) (sym eb ∙ sb) in
       let (a, p) = then-met (unless (placementFits vs os) WrongColumns) (placedFrom n start 0 (entries vs os)) x in
       let (e, l) = both-met (eqb (length os) (length vs)) (leb (length vs) mostEntries) (unless-met (placementFits vs os) WrongColumns a) in
-      record { sound = sound-says n s; even = eqb-true (length os) (length vs) e; order = placed-order n start 0 (entries vs os) p }
+      record { sound = sound-says n s; even = eqb-true (length os) (length vs) e; few = leb-true (length vs) mostEntries l; order = placed-order n start 0 (entries vs os) p }
 
 pub has-wires : {n : Net} → SoundNet n → HasWires n (n .wires)
 has-wires s = record { column = refl; long = s .wires-long }
 
-module _ {n : Net} {vs os : List ℕ} (s : Stood n vs os) where
-  pub stood-rising : Rising vs
-  stood-rising = rising n start vs os (s .order) (s .even)
-
-  pub stood-placed : {first : List ℕ} → Firsts vs (places n) first → Placed n vs os first
-  stood-placed f = record { sound = s .sound; even = s .even; order = s .order; firsts = f }
-
 -- ---- 11 and 12
-module _ {n : Net} {vs os first : List ℕ} (p : Placed n vs os first) (a : Judged) (ea : a ≡ withinLimit (n .limits .limit) 0 (driven n (offsetsOn (entries vs os)))) where
+module _ {n : Net} {vs os : List ℕ} (p : Placed n vs os) (a : Judged) (ea : a ≡ withinLimit (n .limits .limit) 0 (driven n (offsetsOn (entries vs os)))) where
   parts : weighed n vs os ≡ verdictOf
       (thenJudge (thenJudge a (unless (leb (sourceDrives n (offsetsOn (entries vs os))) (n .limits .limit)) (Overloaded (length vs)))) (oneSense n (offsetsOn (entries vs os))))
       (length vs) (sourceDrives n (offsetsOn (entries vs os)))

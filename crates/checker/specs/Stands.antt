@@ -7,8 +7,7 @@ use Rattle.net.specs.declared.Judged.{Judged}
 use Rattle.net.specs.declared.Refusal.the-variants.{WrongColumns}
 use Rattle.net.specs.Net.{Net, places}
 use Rattle.net.specs.Load.{entries}
-use Rattle.net.specs.Legal.{InOrder, start}
-use Rattle.net.specs.Sound.{SoundNet}
+use Rattle.net.specs.Legal.{start}
 use Rattle.net.specs.Judge.{unless, thenJudge, judged}
 use Rattle.net.specs.Checked.{placementFits, placedFrom}
 
@@ -18,12 +17,6 @@ stood n vs os = thenJudge (unless (placementFits vs os) WrongColumns) (placedFro
 -- after the net's own refusals
 abbrev pub begun : Net → List ℕ → List ℕ → Judged
 begun n vs os = thenJudge (judged n) (stood n vs os)
-
--- what is known once none of these is given
-pub record Stood (n : Net) (vs os : List ℕ) : Type 0 where
-  pub sound : SoundNet n
-  pub even : length os ≡ length vs
-  pub order : InOrder n start (entries vs os)
 
 -- a net whose wires are in this column
 pub record HasWires (n : Net) (ws : List ℕ) : Type 0 where

@@ -8,6 +8,7 @@ use lib.ListN.{length}
 use Rattle.net.specs.declared.Judged.{Judged}
 use Rattle.net.specs.declared.Judged.the-variants.{Sound, Refused}
 use Rattle.net.specs.declared.Refusal.the-variants.{Overloaded}
+use Rattle.net.specs.Refusal.{numberOf}
 use Rattle.net.specs.Net.{Net}
 use Rattle.net.specs.Load.{entries, offsetsOn, sourceDrives, drivers}
 use Rattle.net.specs.Legal.{Legal}
@@ -19,6 +20,11 @@ use Rattle.checker.specs.declared.Verdict.the-variants as verdicts
 abbrev pub verdictOf : Judged → ℕ → ℕ → Verdict
 verdictOf Sound count source = verdicts.Legal count source
 verdictOf (Refused r) count source = verdicts.Refused r
+
+-- 0 for a legal placement, or the refusal's number
+abbrev pub verdictNumber : Verdict → ℕ
+verdictNumber (verdicts.Legal count source) = 0
+verdictNumber (verdicts.Refused r) = numberOf r
 
 -- 11 for the source, and then 12
 abbrev pub settled : Net → List ℕ → List ℕ → Verdict

@@ -13,14 +13,12 @@ ghost use Rattle.net.specs.Net.{Net, netAt, places};
 ghost use Rattle.net.specs.Load.{driven};
 ghost use Rattle.net.specs.Sound.{SoundNet};
 ghost use Rattle.net.specs.Checked.{onItsWire, notLower, withinLimit, firstSink, oneSense};
-ghost use Rattle.load.specs.Asks.{offsetsAt, Placed};
+ghost use Rattle.load.specs.Tables.{Clear, Tables};
+ghost use Rattle.load.specs.Asks.{offsetsAt, Placed, Weighable};
 ghost use Rattle.checker.specs.Verdict.{settled, weighed, verdict};
 ghost use Rattle.checker.specs.Listing.{ListedIs};
-ghost use Rattle.checker.specs.Stands.{stood, begun, Stood, HasWires};
-ghost use Rattle.checker.specs.Parity.{Turned};
-
-// The places of a table over nodes.
-const PLACES: usize = 1025;
+ghost use Rattle.checker.specs.Stands.{stood, begun, HasWires};
+ghost use Rattle.checker.specs.Parity.{Counted, Turned};
 
 // The most entries that columns may have.
 const ENTRIES: usize = 4096;
@@ -112,9 +110,12 @@ fn entries_within_limit(
     polarity: &[u8],
     wires: &[u16],
     offsets: &[u32],
-    first: &[usize; load::FIRSTS],
+    own: &[u32; load::PLACES],
+    shut: &[u8; load::PLACES],
+    gap: &[u16; load::PLACES],
+    reach: &[u16; load::PLACES],
 ) -> Judged
-    requires { ⌜ Placed (netAt limits parent wire kind pin polarity) (now wires) (now offsets) (now first) ⌝ }
+    requires { ⌜ Weighable (netAt limits parent wire kind pin polarity) (now wires) (now offsets) (now own) (now shut) (now gap) (now reach) ⌝ }
     ensures { λ r. ⌜ r ≡ withinLimit (limits .limit) 0 (driven (netAt limits (parent .entry) (wire .entry) (kind .entry) (pin .entry) (polarity .entry)) (offsetsAt (wires .entry) (offsets .entry))) ⌝ }
 {
     let most = limits.limit as u64;
@@ -129,7 +130,10 @@ fn entries_within_limit(
             polarity,
             wires,
             offsets,
-            first,
+            own,
+            shut,
+            gap,
+            reach,
             entry,
         );
         if most < load {
@@ -140,19 +144,31 @@ fn entries_within_limit(
     Judged::Sound
 }
 
-// Whether the inverters down to a node are odd, by those down to its parent.
-fn turn(repeater: u8, count: usize, above: u8) -> u8
-    requires { ⌜ (repeater ≤ 1) × (above ≤ 1) ⌝ }
-    ensures { λ r. ⌜ r ≡ (repeater * count + above) % 2 ⌝ }
+// Whether the entries on each wire are odd in number.
+fn count_turns(
+    limits: Limits,
+    parent: &[u16],
+    wire: &[u32],
+    kind: &[u8],
+    pin: &[u32],
+    polarity: &[u8],
+    wires: &[u16],
+    offsets: &[u32],
+    odd: &mut [u8; load::PLACES],
+)
+    requires { ⌜ Placed (netAt limits parent wire kind pin polarity) (now wires) (now offsets) ⌝ }
+    requires { ⌜ Clear (now odd) ⌝ }
+    ensures { λ _. ⌜ Counted (offsetsAt (wires .entry) (offsets .entry)) 0 (now (odd .exit)) ⌝ }
 {
-    if repeater == 0 {
-        return above;
+    let mut k = 0;
+    while k < wires.len() {
+        let on = wires[k] as usize;
+        odd[on] = 1 - odd[on];
+        k += 1;
     }
-    let own = (count % 2) as u8;
-    (own + above) % 2
 }
 
-// Whether the inverters from the source to each node are odd, each node after its parent.
+// Whether the inverters from the source to each node are odd, each node after its parent, from those on each wire.
 fn turns(
     limits: Limits,
     parent: &[u16],
@@ -162,20 +178,19 @@ fn turns(
     polarity: &[u8],
     wires: &[u16],
     offsets: &[u32],
-    first: &[usize; load::FIRSTS],
-    odd: &mut [u8; PLACES],
+    odd: &mut [u8; load::PLACES],
 )
-    requires { ⌜ Placed (netAt limits parent wire kind pin polarity) (now wires) (now offsets) (now first) ⌝ }
-    requires { ⌜ length (now odd) ≡ mostPlaces ⌝ }
+    requires { ⌜ SoundNet (netAt limits parent wire kind pin polarity) × (limits .repeater ≡ 1) ⌝ }
+    requires { ⌜ Counted (offsetsAt wires offsets) 0 (now odd) ⌝ }
     ensures { λ _. ⌜ Turned (netAt limits (parent .entry) (wire .entry) (kind .entry) (pin .entry) (polarity .entry)) (offsetsAt (wires .entry) (offsets .entry)) (places (netAt limits (parent .entry) (wire .entry) (kind .entry) (pin .entry) (polarity .entry))) (now (odd .exit)) ⌝ }
 {
     odd[0] = 0;
     let mut i = 1;
     while i < parent.len() {
         let above = parent[i] as usize;
-        let count = first[i + 1] - first[i];
         let higher = odd[above];
-        odd[i] = turn(limits.repeater, count, higher);
+        let own = odd[i];
+        odd[i] = (own + higher) % 2;
         i += 1;
     }
 }
@@ -196,7 +211,7 @@ fn first_sink(kind: &[u8]) -> usize
 }
 
 // Whether the inverters down to a node and its polarity make an odd sum.
-fn sense(odd: &[u8; PLACES], polarity: &[u8], i: usize) -> u8
+fn sense(odd: &[u8; load::PLACES], polarity: &[u8], i: usize) -> u8
     requires { ⌜ (i < mostPlaces) × (i < length (now polarity)) × (getD (now odd) i 0 + getD (now polarity) i 0 ≤ 2) ⌝ }
     ensures { λ r. ⌜ r ≡ (getD (now (odd .entry)) i 0 + getD (now (polarity .entry)) i 0) % 2 ⌝ }
 {
@@ -213,7 +228,7 @@ fn one_sense(
     polarity: &[u8],
     wires: &[u16],
     offsets: &[u32],
-    odd: &[u8; PLACES],
+    odd: &[u8; load::PLACES],
 ) -> Judged
     requires { ⌜ SoundNet (netAt limits parent wire kind pin polarity) ⌝ }
     requires { ⌜ Turned (netAt limits parent wire kind pin polarity) (offsetsAt wires offsets) (places (netAt limits parent wire kind pin polarity)) (now odd) ⌝ }
@@ -237,7 +252,7 @@ fn one_sense(
     Judged::Sound
 }
 
-// 12, over a table of the inverters down to each node.
+// 12, over a table of the inverters down to each node. Buffers invert nothing, and every polarity is 0 beside them.
 fn judge_senses(
     limits: Limits,
     parent: &[u16],
@@ -247,12 +262,25 @@ fn judge_senses(
     polarity: &[u8],
     wires: &[u16],
     offsets: &[u32],
-    first: &[usize; load::FIRSTS],
 ) -> Judged
-    requires { ⌜ Placed (netAt limits parent wire kind pin polarity) (now wires) (now offsets) (now first) ⌝ }
+    requires { ⌜ Placed (netAt limits parent wire kind pin polarity) (now wires) (now offsets) ⌝ }
     ensures { λ r. ⌜ r ≡ oneSense (netAt limits (parent .entry) (wire .entry) (kind .entry) (pin .entry) (polarity .entry)) (offsetsAt (wires .entry) (offsets .entry)) ⌝ }
 {
-    let mut odd = [0u8; PLACES];
+    if limits.repeater == 0 {
+        return Judged::Sound;
+    }
+    let mut odd = [0u8; load::PLACES];
+    count_turns(
+        limits,
+        parent,
+        wire,
+        kind,
+        pin,
+        polarity,
+        wires,
+        offsets,
+        &mut odd,
+    );
     turns(
         limits,
         parent,
@@ -262,7 +290,6 @@ fn judge_senses(
         polarity,
         wires,
         offsets,
-        first,
         &mut odd,
     );
     one_sense(
@@ -288,38 +315,20 @@ fn settle(
     polarity: &[u8],
     wires: &[u16],
     offsets: &[u32],
-    first: &[usize; load::FIRSTS],
+    own: &[u32; load::PLACES],
+    shut: &[u8; load::PLACES],
+    gap: &[u16; load::PLACES],
+    reach: &[u16; load::PLACES],
 ) -> Verdict
-    requires { ⌜ Placed (netAt limits parent wire kind pin polarity) (now wires) (now offsets) (now first) ⌝ }
+    requires { ⌜ Weighable (netAt limits parent wire kind pin polarity) (now wires) (now offsets) (now own) (now shut) (now gap) (now reach) ⌝ }
     ensures { λ r. ⌜ r ≡ settled (netAt limits (parent .entry) (wire .entry) (kind .entry) (pin .entry) (polarity .entry)) (now (wires .entry)) (now (offsets .entry)) ⌝ }
 {
-    let source = load::load_below(
-        limits,
-        parent,
-        wire,
-        kind,
-        pin,
-        polarity,
-        wires,
-        offsets,
-        first,
-        0,
-    );
+    let source = load::load_below(parent, own, shut, gap, reach, 0);
     let most = limits.limit as u64;
     if most < source {
         return Verdict::Refused(Refusal::Overloaded(wires.len()));
     }
-    let senses = judge_senses(
-        limits,
-        parent,
-        wire,
-        kind,
-        pin,
-        polarity,
-        wires,
-        offsets,
-        first,
-    );
+    let senses = judge_senses(limits, parent, wire, kind, pin, polarity, wires, offsets);
     if let Judged::Refused(r) = senses {
         return Verdict::Refused(r);
     }
@@ -340,11 +349,27 @@ fn weigh(
     wires: &[u16],
     offsets: &[u32],
 ) -> Verdict
-    requires { ⌜ Stood (netAt limits parent wire kind pin polarity) (now wires) (now offsets) ⌝ }
+    requires { ⌜ Placed (netAt limits parent wire kind pin polarity) (now wires) (now offsets) ⌝ }
     ensures { λ r. ⌜ r ≡ weighed (netAt limits (parent .entry) (wire .entry) (kind .entry) (pin .entry) (polarity .entry)) (now (wires .entry)) (now (offsets .entry)) ⌝ }
 {
-    let mut first = [0usize; load::FIRSTS];
-    load::first_entries(wires, parent.len(), &mut first);
+    let mut own = [0u32; load::PLACES];
+    let mut shut = [0u8; load::PLACES];
+    let mut gap = [0u16; load::PLACES];
+    let mut reach = [0u16; load::PLACES];
+    load::make_tables(
+        limits,
+        parent,
+        wire,
+        kind,
+        pin,
+        polarity,
+        wires,
+        offsets,
+        &mut own,
+        &mut shut,
+        &mut gap,
+        &mut reach,
+    );
     let loads = entries_within_limit(
         limits,
         parent,
@@ -354,7 +379,10 @@ fn weigh(
         polarity,
         wires,
         offsets,
-        &first,
+        &own,
+        &shut,
+        &gap,
+        &reach,
     );
     if let Judged::Refused(r) = loads {
         return Verdict::Refused(r);
@@ -368,7 +396,10 @@ fn weigh(
         polarity,
         wires,
         offsets,
-        &first,
+        &own,
+        &shut,
+        &gap,
+        &reach,
     )
 }
 
@@ -402,10 +433,13 @@ fn fill_drives(
     polarity: &[u8],
     wires: &[u16],
     offsets: &[u32],
-    first: &[usize; load::FIRSTS],
+    own: &[u32; load::PLACES],
+    shut: &[u8; load::PLACES],
+    gap: &[u16; load::PLACES],
+    reach: &[u16; load::PLACES],
     out: &mut [u64],
 )
-    requires { ⌜ Placed (netAt limits parent wire kind pin polarity) (now wires) (now offsets) (now first) ⌝ }
+    requires { ⌜ Weighable (netAt limits parent wire kind pin polarity) (now wires) (now offsets) (now own) (now shut) (now gap) (now reach) ⌝ }
     requires { ⌜ length (now wires) ≤ length (now out) ⌝ }
     ensures { λ _. ⌜ now (out .exit) ≡ sets (now (out .entry)) 0 (driven (netAt limits (parent .entry) (wire .entry) (kind .entry) (pin .entry) (polarity .entry)) (offsetsAt (wires .entry) (offsets .entry))) ⌝ }
 {
@@ -420,7 +454,10 @@ fn fill_drives(
             polarity,
             wires,
             offsets,
-            first,
+            own,
+            shut,
+            gap,
+            reach,
             k,
         );
         out[k] = load;
@@ -456,8 +493,24 @@ pub fn list_drives(
     if out.len() < count {
         return Listed::Refused(Refusal::NoRoom(count as u64));
     }
-    let mut first = [0usize; load::FIRSTS];
-    load::first_entries(wires, parent.len(), &mut first);
+    let mut own = [0u32; load::PLACES];
+    let mut shut = [0u8; load::PLACES];
+    let mut gap = [0u16; load::PLACES];
+    let mut reach = [0u16; load::PLACES];
+    load::make_tables(
+        limits,
+        parent,
+        wire,
+        kind,
+        pin,
+        polarity,
+        wires,
+        offsets,
+        &mut own,
+        &mut shut,
+        &mut gap,
+        &mut reach,
+    );
     fill_drives(
         limits,
         parent,
@@ -467,21 +520,13 @@ pub fn list_drives(
         polarity,
         wires,
         offsets,
-        &first,
+        &own,
+        &shut,
+        &gap,
+        &reach,
         out,
     );
-    let source = load::load_below(
-        limits,
-        parent,
-        wire,
-        kind,
-        pin,
-        polarity,
-        wires,
-        offsets,
-        &first,
-        0,
-    );
+    let source = load::load_below(parent, &own, &shut, &gap, &reach, 0);
     Listed::Driven {
         count: count,
         source: source,

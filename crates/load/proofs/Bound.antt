@@ -18,7 +18,7 @@ use Rattle.net.specs.Sound.{SoundNet}
 abbrev pub mostLoad : ℕ
 mostLoad = 11776000000
 
-hands-up-most : (cb w from load : ℕ) (os : List ℕ) → handsUp cb w from load os ≤ w + (load + cb)
+pub hands-up-most : (cb w from load : ℕ) (os : List ℕ) → handsUp cb w from load os ≤ w + (load + cb)
 unfolding handsUp
 hands-up-most cb w from load [] = omega arith
 hands-up-most cb w from load (o ∷ os) = omega (arith, hands-up-last o os)

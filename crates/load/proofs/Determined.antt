@@ -1,17 +1,19 @@
 -- Two answers that meet one contract are equal.
-use Prim.Native.Nat.{ℕ, _≤_, _<_}
+use Prim.Native.Nat.{ℕ, suc, _+_, _≤_, _<_}
 use mathlib.Core.Path.{_≡_, refl, sym, ap, _∙_}
 use mathlib.Core.List.{List}
 use native.Mathlib.Omega.{arith}
 use native.Mathlib.Decide.{decLt}
-use lib.ListN.{getD}
+use lib.ListN.{length, getD}
 use lib.Seq.{ext-getD}
 use Rattle.net.specs.Net.{Net}
 use Rattle.net.specs.Load.{loadBelow, handedUp, driven}
 use Rattle.load.specs.declared.Found.{Found}
 use Rattle.load.specs.declared.Found.the-variants.{At, Nothing}
+use Rattle.net.specs.Figures.{mostPlaces}
 use Rattle.load.specs.Next.{Next, NextIs}
-use Rattle.load.specs.First.{Begins, Filled}
+use Rattle.load.specs.Tables.{Span, childless, childed, Tables}
+use Rattle.load.specs.Asks.{AsksWire, AsksNode, AskedWire, AskedNode}
 
 -- the lowest-numbered child is one
 not-before : {parents : List ℕ} {v after i j : ℕ} → Next parents v after i → Next parents v after j → i < j → ⊥
@@ -26,29 +28,50 @@ next-child-determined parents v after (At i) Nothing x y = absurd (y i (x .later
 next-child-determined parents v after Nothing (At j) x y = absurd (x j (y .later) (y .within) (y .mine))
 next-child-determined parents v after Nothing Nothing x y = refl
 
--- the entries of a wire begin at one place
-begin-within : {vs : List ℕ} {i c d : ℕ} → Begins vs i c → Begins vs i d → c ≤ d
-begin-within {vs} {i} {c} {d} x y = elim (decLt d c) [
-  | yes h ↦ absurd (omega (arith, x .before d h, y .from d (omega arith) (omega (arith, x .within))))
-  | no h ↦ omega arith
-]
+-- the tables of a net and its offsets are one
+module _ {parents : List ℕ} {v to : ℕ} where
+  span-gap : (gap gap′ reach reach′ : ℕ) → Span parents v to gap reach → Span parents v to gap′ reach′ → gap ≤ gap′
+  span-gap gap gap′ reach reach′ (childless g r f) y = omega arith
+  span-gap gap gap′ reach reach′ (childed l w a b f h) (childless g r n) = absurd (n (suc (v + gap)) (omega arith) (omega arith) a)
+  span-gap gap gap′ reach reach′ (childed l w a b f h) (childed l′ w′ a′ b′ f′ h′) = elim (decLt gap′ gap) [
+    | yes q ↦ absurd (f (suc (v + gap′)) (omega arith) (omega arith) a′)
+    | no q ↦ omega arith
+  ]
 
-pub first-entries-determined : (vs : List ℕ) (n : ℕ) (before first first′ : List ℕ) → Filled vs n before first → Filled vs n before first′ → first ≡ first′
-first-entries-determined vs n before first first′ x y = ext-getD 0 first first′ (x .firsts .long ∙ sym (y .firsts .long)) (λ i h. elim (decLt n i) [
-  | yes l ↦ x .others i l ∙ sym (y .others i l)
-  | no l ↦ (
-      let b : Begins vs i (getD first i 0) = x .firsts .begins i (omega arith) in
-      let b′ : Begins vs i (getD first′ i 0) = y .firsts .begins i (omega arith) in
-      omega (arith, begin-within b b′, begin-within b′ b)
-      )
-])
+  span-reach : (gap gap′ reach reach′ : ℕ) → Span parents v to gap reach → Span parents v to gap′ reach′ → reach ≤ reach′
+  span-reach gap gap′ reach reach′ (childless g r f) y = omega arith
+  span-reach gap gap′ reach reach′ (childed l w a b f h) (childless g r n) = absurd (n (v + reach) (omega arith) w b)
+  span-reach gap gap′ reach reach′ (childed l w a b f h) (childed l′ w′ a′ b′ f′ h′) = elim (decLt reach′ reach) [
+    | yes q ↦ absurd (h′ (v + reach) (omega arith) w b)
+    | no q ↦ omega arith
+  ]
 
-module _ (n : Net) (offs : ℕ → List ℕ) (i : ℕ) {r r′ : ℕ} where
-  pub load-below-determined : r ≡ loadBelow n offs i → r′ ≡ loadBelow n offs i → r ≡ r′
-  load-below-determined e f = e ∙ sym f
+same-long : (xs ys : List ℕ) → length xs ≡ mostPlaces → length ys ≡ mostPlaces → ((i : ℕ) → getD xs i 0 ≡ getD ys i 0) → xs ≡ ys
+same-long xs ys a b h = ext-getD 0 xs ys (a ∙ sym b) (λ i l. h i)
 
-  pub handed-up-determined : r ≡ handedUp n offs i → r′ ≡ handedUp n offs i → r ≡ r′
-  handed-up-determined e f = e ∙ sym f
+both : {m k : ℕ} → m ≤ k → k ≤ m → m ≡ k
+both a b = omega arith
 
-  pub drives-determined : r ≡ getD (driven n offs) i 0 → r′ ≡ getD (driven n offs) i 0 → r ≡ r′
-  drives-determined e f = e ∙ sym f
+module _ {n : Net} {offs : ℕ → List ℕ} (own own′ shut shut′ gap gap′ reach reach′ : List ℕ) (x : Tables n offs own shut gap reach) (y : Tables n offs own′ shut′ gap′ reach′) where
+  pub make-tables-determined : (own ≡ own′) × (shut ≡ shut′) × (gap ≡ gap′) × (reach ≡ reach′)
+  make-tables-determined = (
+    same-long own own′ (x .parts .own-long) (y .parts .own-long) (λ i. x .parts .own-is i ∙ sym (y .parts .own-is i)),
+    same-long shut shut′ (x .parts .shut-long) (y .parts .shut-long) (λ i. x .parts .shut-is i ∙ sym (y .parts .shut-is i)),
+    same-long gap gap′ (x .spans .gap-long) (y .spans .gap-long) (λ v. both (span-gap _ _ _ _ (x .spans .span v) (y .spans .span v)) (span-gap _ _ _ _ (y .spans .span v) (x .spans .span v))),
+    same-long reach reach′ (x .spans .reach-long) (y .spans .reach-long) (λ v. both (span-reach _ _ _ _ (x .spans .span v) (y .spans .span v)) (span-reach _ _ _ _ (y .spans .span v) (x .spans .span v))),
+  )
+
+-- what the loads answer for every net whose tables these are is one number, since there is such a net
+module _ (parents own shut gap reach : List ℕ) (i : ℕ) {r r′ : ℕ} where
+  pub load-below-determined : AskedNode parents own shut gap reach i
+      → ((n : Net) (offs : ℕ → List ℕ) → AsksNode n offs parents own shut gap reach i → r ≡ loadBelow n offs i)
+      → ((n : Net) (offs : ℕ → List ℕ) → AsksNode n offs parents own shut gap reach i → r′ ≡ loadBelow n offs i) → r ≡ r′
+  load-below-determined a e f = e (a .net) (a .offs) (a .asks) ∙ sym (f (a .net) (a .offs) (a .asks))
+
+  pub handed-up-determined : AskedWire parents own shut gap reach i
+      → ((n : Net) (offs : ℕ → List ℕ) → AsksWire n offs parents own shut gap reach i → r ≡ handedUp n offs i)
+      → ((n : Net) (offs : ℕ → List ℕ) → AsksWire n offs parents own shut gap reach i → r′ ≡ handedUp n offs i) → r ≡ r′
+  handed-up-determined a e f = e (a .net) (a .offs) (a .asks) ∙ sym (f (a .net) (a .offs) (a .asks))
+
+pub drives-determined : (n : Net) (offs : ℕ → List ℕ) (k : ℕ) {r r′ : ℕ} → r ≡ getD (driven n offs) k 0 → r′ ≡ getD (driven n offs) k 0 → r ≡ r′
+drives-determined n offs k e f = e ∙ sym f

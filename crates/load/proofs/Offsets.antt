@@ -1,5 +1,5 @@
 -- The offsets of wire i are the part of the list from where its entries begin to where those of the next wire do.
--- So what the wire hands up is told by the last of them, and what each drives by its place in the list.
+-- So what each of them drives is told by its place in the list.
 use Prim.Native.Nat.{ℕ, zero, suc, _-_, _<_, _≤_, _+_}
 use mathlib.Core.Path.{_≡_, refl, ap, _∙_}
 use mathlib.Core.List.{List, [], _∷_}
@@ -8,8 +8,8 @@ use native.Mathlib.Decide.{ℕ-discrete, decLt}
 use lib.ListN.{length, getD, length-append, List·getD-append}
 use lib.Seq.{slice, length-slice, getD-take, getD-drop, getD-append-add}
 use borrow.Author.Tests.{eq-eqb, ne-eqb}
-use Rattle.net.specs.Load.{entries, offsetsOn, drives, handsUp, joined}
-use Rattle.load.specs.First.{Begins}
+use Rattle.net.specs.Load.{entries, offsetsOn, drives, joined}
+use Rattle.load.proofs.Begins.{Begins}
 
 -- ---- the part of the list
 
@@ -55,27 +55,6 @@ module _ {vs : List ℕ} {i c d : ℕ} (from : Begins vs i c) (to : Begins vs (s
 -- an element of the part
 slice-at : (c d : ℕ) (os : List ℕ) (k : ℕ) → c + k < d → getD (slice c d os) k 0 ≡ getD os (c + k) 0
 slice-at c d os k h = rw (getD-drop, getD-take d os (c + k) 0 h)
-
--- ---- what a wire hands up
-
-pub hands-none : (cb w load : ℕ) → handsUp cb w 0 load [] ≡ w + load
-unfolding handsUp
-hands-none cb w load = omega arith
-
-hands-last : (cb w from load : ℕ) (xs : List ℕ) (m : ℕ) → length xs ≡ suc m → handsUp cb w from load xs ≡ (w - getD xs m 0) + cb
-unfolding handsUp
-hands-last cb w from load [] m e = absurd (omega arith)
-hands-last cb w from load (x ∷ []) zero e = refl
-hands-last cb w from load (x ∷ []) (suc m) e = absurd (omega arith)
-hands-last cb w from load (x ∷ (y ∷ ys)) zero e = absurd (omega arith)
-hands-last cb w from load (x ∷ (y ∷ ys)) (suc m) e = hands-last cb w x cb (y ∷ ys) m (omega arith)
-
-pub hands-slice : (cb w load c d : ℕ) (os : List ℕ) → c < d → d ≤ length os → handsUp cb w 0 load (slice c d os) ≡ (w - getD os (d - 1) 0) + cb
-hands-slice cb w load c d os h l =
-    let m : ℕ = d - suc c in
-    let e : c + m ≡ d - 1 = omega arith in
-    let f : length (slice c d os) ≡ suc m = length-slice c d os l ∙ omega arith in
-    rw (hands-last cb w 0 load (slice c d os) m f, slice-at c d os m (omega arith), e)
 
 -- ---- what each entry drives
 

@@ -8,7 +8,10 @@ use Rattle.net.specs.declared.Entry.{Entry}
 use Rattle.net.specs.Net.{Net}
 use Rattle.net.specs.Load.{entries}
 use Rattle.net.specs.Legal.{InOrder, After, higher, further, Stands}
-use Rattle.load.specs.First.{Rising}
+
+-- "Entries stand in order of wire number"
+abbrev pub Rising : List ℕ → Type 0
+Rising vs = (a b : ℕ) → a ≤ b → b < length vs → getD vs a 0 ≤ getD vs b 0
 
 after-wire : {d e : Entry} → After d e → d .wire ≤ e .wire
 after-wire (higher h) = omega arith

@@ -14,7 +14,7 @@ use Rattle.net.specs.Load.{handsUp, handedBy, loadBelow, handedUp}
 use Rattle.net.specs.Sound.{SoundNet}
 use Rattle.net.proofs.Hanging.{hanging-skip, hanging-take, hanging-end}
 use Rattle.load.specs.declared.Found.{Found}
-use Rattle.load.specs.Next.{NoneBetween, Next, NextIs}
+use Rattle.load.specs.Next.{Searched, NoneFrom, NoneBetween, Next, NextIs}
 use Rattle.load.proofs.Bound.{mostLoad, load-most}
 
 -- no node from a up to j is a child of v
@@ -52,9 +52,26 @@ pub record Scan (n : Net) (offs : ℕ → List ℕ) (v sum after : ℕ) : Type 0
   pub within : after < places n
   pub rest : sum + handedBy (n .limits .pin) offs (hanging n (places n - suc after) v) ≡ loadBelow n offs v
 
-pub scan-start : {n : Net} (offs : ℕ → List ℕ) {v : ℕ} → v < places n → (kind n v ≡ 1 → ⊥) → Scan n offs v 0 v
+-- no child up to the place where the search begins
+pub scan-start : {n : Net} (offs : ℕ → List ℕ) {v : ℕ} (after : ℕ) → v ≤ after → after < places n → NoneFrom (n .parents) v (suc v) (suc after) → (kind n v ≡ 1 → ⊥) → Scan n offs v 0 after
 unfolding loadBelow
-scan-start {n} offs {v} h k = record { from = omega arith; within = h; rest = rw (ne-eqb (kind n v) 1 k) (omega arith) }
+scan-start {n} offs {v} after l h f k = record {
+  from = l;
+  within = h;
+  rest = rw (ne-eqb (kind n v) 1 k) (omega (arith, ap (handedBy (n .limits .pin) offs) (skip-to n v (suc v) (suc after) (omega arith) h f)));
+}
+
+-- the search may go on from any node
+pub searched : (n : Net) {parents : List ℕ} → n .parents ≡ parents → SoundNet n → {v after : ℕ} → v < places n → after < places n → Searched parents v after
+searched n column s h l = rw (← column) (record { few = s .few; node = h; within = l; lower = s .lower })
+
+-- what next_child answered, taken apart by its constructor, over the column that it looked at
+module _ (n : Net) {parents : List ℕ} (column : n .parents ≡ parents) (v after : ℕ) (r : Found) (x : NextIs parents v after r) where
+  pub found-child : (j : ℕ) → r ≡ Found.At j → Next (n .parents) v after j
+  found-child j e = rw column (subst (NextIs parents v after) e x)
+
+  pub found-none : r ≡ Found.Nothing → NoneBetween (n .parents) v after (places n)
+  found-none e = rw column (subst (NextIs parents v after) e x)
 
 module _ {n : Net} {offs : ℕ → List ℕ} {v sum after : ℕ} (s : Scan n offs v sum after) where
   scan-on : {j : ℕ} → Next (n .parents) v after j → handedBy (n .limits .pin) offs (hanging n (places n - suc after) v) ≡ handedUp n offs j + handedBy (n .limits .pin) offs (hanging n (places n - suc j) v)
@@ -63,19 +80,14 @@ module _ {n : Net} {offs : ℕ → List ℕ} {v sum after : ℕ} (s : Scan n off
       (skip-to n v (suc after) j (x .later) (omega (arith, x .within)) (λ k g u. x .first k g u) ∙ hanging-take n j v (x .within) (x .mine))
       ∙ handed-hung n offs j (hanging n (places n - suc j) v)
 
-  -- what next_child answered, taken apart by its constructor
-  pub scan-found : (r : Found) (j : ℕ) → NextIs (n .parents) v after r → r ≡ Found.At j → Next (n .parents) v after j
-  scan-found r j x e = subst (NextIs (n .parents) v after) e x
-
   pub scan-next : {j : ℕ} → Next (n .parents) v after j → (r : ℕ) → r ≡ handedUp n offs j → Scan n offs v (sum + r) j
   scan-next {j} x r e = record { from = omega (arith, s .from, x .later); within = x .within; rest = omega (arith, s .rest, scan-on x) }
 
   pub scan-most : SoundNet n → sum ≤ mostLoad
   scan-most k = omega (arith, s .rest, load-most k offs v (omega (arith, s .from, s .within)))
 
-  pub scan-over : (r : Found) → NextIs (n .parents) v after r → r ≡ Found.Nothing → sum ≡ loadBelow n offs v
-  scan-over r x e =
-      let none-left : NoneBetween (n .parents) v after (places n) = subst (NextIs (n .parents) v after) e x in
+  pub scan-over : NoneBetween (n .parents) v after (places n) → sum ≡ loadBelow n offs v
+  scan-over none-left =
       let h : handedBy (n .limits .pin) offs (hanging n (places n - suc after) v) ≡ 0 =
       ap (handedBy (n .limits .pin) offs)
       (skip-to n v (suc after) (places n) (s .within) (omega arith) (λ k g u. none-left k g u) ∙ hanging-end n (places n) v (omega arith))

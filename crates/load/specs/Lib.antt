@@ -1,3 +1,3 @@
 pub mod Next
-pub mod First
+pub mod Tables
 pub mod Asks

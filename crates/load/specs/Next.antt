@@ -7,6 +7,12 @@ use Rattle.net.specs.Figures.{mostPlaces}
 use Rattle.load.specs.declared.Found.{Found}
 use Rattle.load.specs.declared.Found.the-variants.{At, Nothing}
 
+-- "A parent's number is lower than its child's."
+pub record Parents (parents : List ℕ) : Type 0 where
+  pub some : 1 ≤ length parents
+  pub few : length parents ≤ mostPlaces
+  pub lower : (i : ℕ) → 1 ≤ i → i < length parents → getD parents i 0 < i
+
 -- "A parent's number is lower than its child's", and the search for a child of v goes on from a node of the net
 pub record Searched (parents : List ℕ) (v after : ℕ) : Type 0 where
   pub few : length parents ≤ mostPlaces

@@ -1,18 +1,21 @@
 // What lies below a node, what a wire hands up, and what each entry drives, over lent columns.
 use net::Limits;
 ghost use mathlib.Core.Path.{_≡_};
-ghost use Prim.Native.Nat.{suc, _≤_, _<_};
+ghost use Prim.Native.Nat.{ℕ, _+_, _≤_, _<_};
 ghost use mathlib.Core.Bool.{false};
+ghost use mathlib.Core.List.{List, []};
+ghost use lib.Dec.{eqb};
 ghost use lib.ListN.{length, getD};
-ghost use Rattle.net.specs.Figures.{mostPlaces};
-ghost use Rattle.net.specs.Net.{netAt};
-ghost use Rattle.net.specs.Load.{loadBelow, handedUp, driven};
-ghost use Rattle.load.specs.Next.{Searched, NoneFrom, Passed, NextIs};
-ghost use Rattle.load.specs.First.{Rising, Filled};
-ghost use Rattle.load.specs.Asks.{offsetsAt, Asks, AsksEntry};
+ghost use Rattle.net.specs.Choose.{pick};
+ghost use Rattle.net.specs.Net.{Net, netAt};
+ghost use Rattle.net.specs.Load.{loadBelow, handedUp, driven, offsetsOn};
+ghost use Rattle.net.specs.Sound.{SoundNet};
+ghost use Rattle.load.specs.Next.{Parents, Searched, NoneFrom, Passed, NextIs};
+ghost use Rattle.load.specs.Tables.{Clear, Spans, Parts, Tables};
+ghost use Rattle.load.specs.Asks.{offsetsAt, Placed, Stacked, AsksNode, AsksWire, AskedNode, AskedWire, AsksEntry};
 
-// The places of a table that says where the entries of each wire begin: one more than a column's most.
-pub const FIRSTS: usize = 1026;
+// The places of a table over nodes.
+pub const PLACES: usize = 1025;
 
 // A child of a node, or that there is none.
 pub enum Found {
@@ -21,7 +24,7 @@ pub enum Found {
 }
 
 // How many nodes the search for a child looks at in one go.
-const RUN: usize = 64;
+const RUN: usize = 16;
 
 // Whether one of the nodes from `from` up to `to` is a child. The loop goes to its end, so that many are compared at once.
 fn any_child(parent: &[u16], node: u16, from: usize, to: usize) -> bool
@@ -55,12 +58,19 @@ fn pass_runs(parent: &[u16], node: u16, after: usize) -> usize
     j
 }
 
-// The lowest-numbered child of a node past another.
+// The lowest-numbered child of a node past another. Children often stand side by side, so the very next node is looked at first.
 pub fn next_child(parent: &[u16], node: usize, after: usize) -> Found
     requires { ⌜ Searched (now parent) node after ⌝ }
     ensures { λ r. ⌜ NextIs (now (parent .entry)) node after r ⌝ }
 {
     let wanted = node as u16;
+    let next = after + 1;
+    if next == parent.len() {
+        return Found::Nothing;
+    }
+    if parent[next] == wanted {
+        return Found::At(next);
+    }
     let mut j = pass_runs(parent, wanted, after);
     while j < parent.len() {
         if parent[j] == wanted {
@@ -71,29 +81,69 @@ pub fn next_child(parent: &[u16], node: usize, after: usize) -> Found
     Found::Nothing
 }
 
-// Where the entries of each wire begin: one pass over a list in order of wire number.
-pub fn first_entries(wires: &[u16], places: usize, first: &mut [usize; FIRSTS])
-    requires { ⌜ Rising (now wires) ⌝ }
-    requires { ⌜ (places ≤ mostPlaces) × (length (now first) ≡ suc mostPlaces) ⌝ }
-    ensures { λ _. ⌜ Filled (now (wires .entry)) places (now (first .entry)) (now (first .exit)) ⌝ }
+// How far the first child is past the node, less one: kept where a child has been seen.
+fn first_gap(reach: u16, gap: u16, apart: u16) -> u16
+    ensures { λ r. ⌜ r ≡ pick (eqb reach 0) apart gap ⌝ }
 {
-    let mut i = 0;
-    let mut k = 0;
-    while i <= places {
-        if k < wires.len() {
-            let on = wires[k] as usize;
-            if on < i {
-                k += 1;
-                continue;
-            }
-        }
-        first[i] = k;
+    if reach == 0 {
+        return apart;
+    }
+    gap
+}
+
+// How far past each node its last child is, and how far the nodes reach that are before its first: one pass over the parents.
+fn span_children(parent: &[u16], gap: &mut [u16; PLACES], reach: &mut [u16; PLACES])
+    requires { ⌜ Parents (now parent) ⌝ }
+    requires { ⌜ Clear (now gap) × Clear (now reach) ⌝ }
+    ensures { λ _. ⌜ Spans (now (parent .entry)) (now (gap .exit)) (now (reach .exit)) ⌝ }
+{
+    let mut i = 1;
+    while i < parent.len() {
+        let p = parent[i] as usize;
+        let past = (i - p) as u16;
+        gap[p] = first_gap(reach[p], gap[p], past - 1);
+        reach[p] = past;
         i += 1;
     }
 }
 
-// What lies below a node: a sink's pin, or the sum of what the wires below it hand up.
-pub fn load_below(
+// What a wire without entries hands up by itself: its size, and the pin of a sink.
+fn bare(size: u32, kind: u8, pin: u32) -> u32
+    requires { ⌜ size + pin < 4294967296 ⌝ }
+    ensures { λ r. ⌜ r ≡ pick (eqb kind 1) (size + pin) size ⌝ }
+{
+    if kind == 1 {
+        return size + pin;
+    }
+    size
+}
+
+// The parts of all wires while there are no entries: only those above a sink ask no further down.
+fn bare_parts(
+    limits: Limits,
+    parent: &[u16],
+    wire: &[u32],
+    kind: &[u8],
+    pin: &[u32],
+    polarity: &[u8],
+    own: &mut [u32; PLACES],
+    shut: &mut [u8; PLACES],
+)
+    requires { ⌜ SoundNet (netAt limits parent wire kind pin polarity) ⌝ }
+    requires { ⌜ Clear (now own) × Clear (now shut) ⌝ }
+    ensures { λ _. ⌜ Parts (netAt limits (parent .entry) (wire .entry) (kind .entry) (pin .entry) (polarity .entry)) (offsetsOn []) (now (own .exit)) (now (shut .exit)) ⌝ }
+{
+    let mut i = 0;
+    while i < wire.len() {
+        let above = kind[i];
+        own[i] = bare(wire[i], above, pin[i]);
+        shut[i] = above;
+        i += 1;
+    }
+}
+
+// The entries, each in its turn: above its topmost one a wire hands up "w - om + C_b", and asks no further down.
+fn cut_parts(
     limits: Limits,
     parent: &[u16],
     wire: &[u32],
@@ -102,74 +152,113 @@ pub fn load_below(
     polarity: &[u8],
     wires: &[u16],
     offsets: &[u32],
-    first: &[usize; FIRSTS],
+    own: &mut [u32; PLACES],
+    shut: &mut [u8; PLACES],
+)
+    requires { ⌜ Placed (netAt limits parent wire kind pin polarity) (now wires) (now offsets) ⌝ }
+    requires { ⌜ Parts (netAt limits parent wire kind pin polarity) (offsetsOn []) (now own) (now shut) ⌝ }
+    ensures { λ _. ⌜ Parts (netAt limits (parent .entry) (wire .entry) (kind .entry) (pin .entry) (polarity .entry)) (offsetsAt (wires .entry) (offsets .entry)) (now (own .exit)) (now (shut .exit)) ⌝ }
+{
+    let mut k = 0;
+    while k < wires.len() {
+        let on = wires[k] as usize;
+        let offset = offsets[k];
+        let size = wire[on];
+        own[on] = size - offset + limits.pin;
+        shut[on] = 1;
+        k += 1;
+    }
+}
+
+// The four tables that the loads are told from, all clear before.
+pub fn make_tables(
+    limits: Limits,
+    parent: &[u16],
+    wire: &[u32],
+    kind: &[u8],
+    pin: &[u32],
+    polarity: &[u8],
+    wires: &[u16],
+    offsets: &[u32],
+    own: &mut [u32; PLACES],
+    shut: &mut [u8; PLACES],
+    gap: &mut [u16; PLACES],
+    reach: &mut [u16; PLACES],
+)
+    requires { ⌜ Placed (netAt limits parent wire kind pin polarity) (now wires) (now offsets) ⌝ }
+    requires { ⌜ Clear (now own) × Clear (now shut) × Clear (now gap) × Clear (now reach) ⌝ }
+    ensures { λ _. ⌜ Tables (netAt limits (parent .entry) (wire .entry) (kind .entry) (pin .entry) (polarity .entry)) (offsetsAt (wires .entry) (offsets .entry)) (now (own .exit)) (now (shut .exit)) (now (gap .exit)) (now (reach .exit)) ⌝ }
+{
+    span_children(parent, gap, reach);
+    bare_parts(limits, parent, wire, kind, pin, polarity, own, shut);
+    cut_parts(
+        limits,
+        parent,
+        wire,
+        kind,
+        pin,
+        polarity,
+        wires,
+        offsets,
+        own,
+        shut,
+    );
+}
+
+// What lies below a branch point or the source: the sum of what the wires below it hand up. The tables spare the search before its first child and past its last.
+pub fn load_below(
+    parent: &[u16],
+    own: &[u32; PLACES],
+    shut: &[u8; PLACES],
+    gap: &[u16; PLACES],
+    reach: &[u16; PLACES],
     node: usize,
 ) -> u64
-    requires { ⌜ Asks (netAt limits parent wire kind pin polarity) (now wires) (now offsets) (now first) node ⌝ }
-    ensures { λ r. ⌜ r ≡ loadBelow (netAt limits (parent .entry) (wire .entry) (kind .entry) (pin .entry) (polarity .entry)) (offsetsAt (wires .entry) (offsets .entry)) node ⌝ }
+    requires { ⌜ AskedNode (now parent) (now own) (now shut) (now gap) (now reach) node ⌝ }
+    ensures { λ r. ⌜ ((n : Net) (offs : ℕ → List ℕ) → AsksNode n offs (now (parent .entry)) (now (own .entry)) (now (shut .entry)) (now (gap .entry)) (now (reach .entry)) node → r ≡ loadBelow n offs node) ⌝ }
 {
-    if kind[node] == 1 {
-        let own = pin[node] as u64;
-        return own;
-    }
     let mut sum: u64 = 0;
-    let mut after = node;
-    loop {
+    let mut after = node + gap[node] as usize;
+    let last = node + reach[node] as usize;
+    while after < last {
         let next = next_child(parent, node, after);
         let Found::At(j) = next else {
             return sum;
         };
-        sum += handed_up(
-            limits,
-            parent,
-            wire,
-            kind,
-            pin,
-            polarity,
-            wires,
-            offsets,
-            first,
-            j,
-        );
+        sum += handed_up(parent, own, shut, gap, reach, j);
         after = j;
     }
+    sum
 }
 
-// What a wire hands up: above its topmost entry, or its size and what lies below its lower node.
+// What a wire hands up: its own part, and where it has no entries what lies below its lower node.
 pub fn handed_up(
-    limits: Limits,
     parent: &[u16],
-    wire: &[u32],
-    kind: &[u8],
-    pin: &[u32],
-    polarity: &[u8],
-    wires: &[u16],
-    offsets: &[u32],
-    first: &[usize; FIRSTS],
+    own: &[u32; PLACES],
+    shut: &[u8; PLACES],
+    gap: &[u16; PLACES],
+    reach: &[u16; PLACES],
     i: usize,
 ) -> u64
-    requires { ⌜ Asks (netAt limits parent wire kind pin polarity) (now wires) (now offsets) (now first) i ⌝ }
-    ensures { λ r. ⌜ r ≡ handedUp (netAt limits (parent .entry) (wire .entry) (kind .entry) (pin .entry) (polarity .entry)) (offsetsAt (wires .entry) (offsets .entry)) i ⌝ }
+    requires { ⌜ AskedWire (now parent) (now own) (now shut) (now gap) (now reach) i ⌝ }
+    ensures { λ r. ⌜ ((n : Net) (offs : ℕ → List ℕ) → AsksWire n offs (now (parent .entry)) (now (own .entry)) (now (shut .entry)) (now (gap .entry)) (now (reach .entry)) i → r ≡ handedUp n offs i) ⌝ }
 {
-    let size = wire[i] as u64;
-    let end = first[i + 1];
-    if first[i] < end {
-        let last = offsets[end - 1] as u64;
-        return size - last + limits.pin as u64;
+    let part = own[i] as u64;
+    if shut[i] == 1 {
+        return part;
     }
-    size
-        + load_below(
-            limits,
-            parent,
-            wire,
-            kind,
-            pin,
-            polarity,
-            wires,
-            offsets,
-            first,
-            i,
-        )
+    part + load_below(parent, own, shut, gap, reach, i)
+}
+
+// Whether an entry stands above another on its wire.
+fn stacked(wires: &[u16], k: usize) -> bool
+    requires { ⌜ k < length (now wires) ⌝ }
+    ensures { λ r. ⌜ Stacked (now (wires .entry)) k r ⌝ }
+{
+    if k == 0 {
+        return false;
+    }
+    wires[k - 1] == wires[k]
 }
 
 // What an entry drives: the lowest on its wire its offset and what lies below the node, each next its offset less the one before and C_b.
@@ -182,29 +271,24 @@ pub fn drives(
     polarity: &[u8],
     wires: &[u16],
     offsets: &[u32],
-    first: &[usize; FIRSTS],
+    own: &[u32; PLACES],
+    shut: &[u8; PLACES],
+    gap: &[u16; PLACES],
+    reach: &[u16; PLACES],
     k: usize,
 ) -> u64
-    requires { ⌜ AsksEntry (netAt limits parent wire kind pin polarity) (now wires) (now offsets) (now first) k ⌝ }
+    requires { ⌜ AsksEntry (netAt limits parent wire kind pin polarity) (now wires) (now offsets) (now own) (now shut) (now gap) (now reach) k ⌝ }
     ensures { λ r. ⌜ r ≡ getD (driven (netAt limits (parent .entry) (wire .entry) (kind .entry) (pin .entry) (polarity .entry)) (offsetsAt (wires .entry) (offsets .entry))) k 0 ⌝ }
 {
     let i = wires[k] as usize;
     let offset = offsets[k] as u64;
-    if first[i] < k {
+    if stacked(wires, k) {
         let before = offsets[k - 1] as u64;
         return offset - before + limits.pin as u64;
     }
-    offset
-        + load_below(
-            limits,
-            parent,
-            wire,
-            kind,
-            pin,
-            polarity,
-            wires,
-            offsets,
-            first,
-            i,
-        )
+    if kind[i] == 1 {
+        let sink = pin[i] as u64;
+        return offset + sink;
+    }
+    offset + load_below(parent, own, shut, gap, reach, i)
 }

@@ -8,12 +8,8 @@ use Rattle.checker.specs.declared.Verdict.{Verdict}
 use Rattle.checker.specs.declared.Verdict.the-variants as verdicts
 use Rattle.checker.specs.declared.Listed.{Listed}
 use Rattle.checker.specs.declared.Listed.the-variants as lists
-use Rattle.checker.specs.Verdict.{verdict}
+use Rattle.checker.specs.Verdict.{verdictNumber, verdict}
 use Rattle.checker.specs.Listing.{ListedIs}
-
-abbrev pub verdictNumber : Verdict → ℕ
-verdictNumber (verdicts.Legal count source) = 0
-verdictNumber (verdicts.Refused r) = numberOf r
 
 abbrev pub verdictCount : Verdict → ℕ
 verdictCount (verdicts.Legal count source) = count

@@ -24,8 +24,7 @@ use Rattle.net_file.specs.declared.NetRead.the-variants.{Read as NetWasRead, Re
 use Rattle.net.specs.Refusal.{judgedNumber}
 use Rattle.net.specs.Load.{entries, offsetsOn, sourceDrives}
 use Rattle.net.specs.Checked.{checked}
-use Rattle.checker.specs.Verdict.{verdictOf, verdict}
-use Rattle.router.specs.Routed.{verdictNumber}
+use Rattle.checker.specs.Verdict.{verdictOf, verdictNumber, verdict}
 use Rattle.net_file.specs.NetFile as net_file
 use Rattle.net_file.specs.NetFile.{netOf, room, firstPlaces, ReadNet}
 use Rattle.net_file.proofs.ReadWrite.{Same, same-bytes, answered-read, read-net, front-is}

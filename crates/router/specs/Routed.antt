@@ -6,12 +6,6 @@ use Rattle.net.specs.Net.{Net}
 use Rattle.net.specs.Checked.{checked}
 use Rattle.net_file.specs.NetFile as net_file
 use Rattle.placement_file.specs.File as placement_file
-use Rattle.checker.specs.declared.Verdict.{Verdict}
-use Rattle.checker.specs.declared.Verdict.the-variants.{Legal, Refused}
-
-abbrev pub verdictNumber : Verdict → ℕ
-verdictNumber (Legal count source) = 0
-verdictNumber (Refused r) = numberOf r
 
 -- what a placement file says, on a net
 abbrev pub onNet : Net → placement_file.Outcome → ℕ

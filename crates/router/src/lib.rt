@@ -11,7 +11,8 @@ ghost use Rattle.net.specs.Refusal.{judgedNumber};
 ghost use Rattle.net.specs.Checked.{checked};
 ghost use Rattle.net_file.specs.NetFile.{room, firstPlaces};
 ghost use Rattle.placement_file.specs.File.{placementOf};
-ghost use Rattle.router.specs.Routed.{verdictNumber, onNet, routed};
+ghost use Rattle.checker.specs.Verdict.{verdictNumber};
+ghost use Rattle.router.specs.Routed.{onNet, routed};
 
 // 0 for a legal placement, else the refusal's number.
 fn verdict_number(v: Verdict) -> u32

@@ -1,74 +1,58 @@
--- `checker::turns` meets its contract. The invariant is Inverters.antt's: the table is right below i.
-use Prim.Native.Nat.{_≤_, _-_}
-use mathlib.Core.Path.{_≡_}
+-- `checker::turns` meets its contract. The invariant: below i the table is right, and from i on it still holds the inverters on each wire (Inverters.antt).
+use Prim.Native.Nat.{_≤_, _<_, _-_}
+use mathlib.Core.Path.{_≡_, refl}
 use native.Mathlib.Omega.{arith}
-use lib.ListN.{length}
+use lib.ListN.{length, getD}
+use Rattle.net.specs.declared.Limits.{Limits}
 use Rattle.net.specs.Net.{net}
 use Rattle.net.specs.Load.{entries, offsetsOn}
-use Rattle.load.proofs.Wire.{on-count, begins-in-order}
-use Rattle.checker.specs.Parity.{Turned}
-use Rattle.checker.proofs.Inverters.{turned-none, above-most, turned-more}
+use Rattle.net.specs.Sound.{SoundNet}
+use Rattle.checker.specs.Parity.{Counted, Turned}
+use Rattle.checker.proofs.Inverters.{turned-none, counted-none, above-most, own-most, counted-more, turned-more}
 use Rattle.checker.proofs.turns.Statement.{statement}
 use Rattle.checker.proofs.turns.Tie as tie
 
 abbrev Inv-loop : tie.InvT-loop
-Inv-loop limits parent wire kind pin polarity wires offsets first odd₀ i₀ odd i =
-    (1 ≤ i) × (i ≤ length parent) × Turned (net limits parent wire kind pin polarity) (offsetsOn (entries wires offsets)) i odd
+Inv-loop parent wire kind pin polarity wires offsets odd₀ i₀ odd i =
+    (1 ≤ i) × (i ≤ length parent) × Counted (offsetsOn (entries wires offsets)) i odd
+    × ((limits : Limits) → SoundNet (net limits parent wire kind pin polarity) → limits .repeater ≡ 1 → Turned (net limits parent wire kind pin polarity) (offsetsOn (entries wires offsets)) i odd)
 
 abbrev μ-loop : tie.MeasureT-loop
-μ-loop limits parent wire kind pin polarity wires offsets first odd₀ i₀ odd i = length parent - i
+μ-loop parent wire kind pin polarity wires offsets odd₀ i₀ odd i = length parent - i
 
--- the entry, from where the slices are known
-abbrev start : tie.After-shared-slice-known7 Inv-loop μ-loop → tie.Start Inv-loop μ-loop
-start c = c .before .before .before .before .before .before .before
+-- the entry, from where the parents are known in a turn, and that a node's parent is lower
+abbrev start : tie.After-shared-slice-known Inv-loop μ-loop → tie.Start Inv-loop μ-loop
+start c = c .before .before .before
+
+lower : (c : tie.After-shared-slice-known Inv-loop μ-loop) → getD (start c .args .parent .now) (c .before .before .loop .i) 0 < c .before .before .loop .i
+lower c = start c .pre .0 .0 .lower (c .before .before .loop .i) (omega arith) (omega arith)
 
 element-write-odd : tie.Need-element-write-odd Inv-loop μ-loop
-element-write-odd c = omega arith
+element-write-odd c = omega (arith, c .pre .1 .long)
 
 loop-holds : tie.Need-loop-holds Inv-loop μ-loop
-loop-holds c =
-    let s = start c in
-    (omega arith, s .pre .0 .sound .some, turned-none (s .pre .0 .sound) _ (s .args .odd .now) (s .pre .1))
+loop-holds c = (omega arith, c .pre .0 .0 .some, counted-none (c .pre .0 .0) _ (c .args .odd .now) (c .pre .1), λ limits s u. turned-none s _ (c .args .odd .now) (c .pre .1 .long))
 
 mul-above : tie.Need-mul-above Inv-loop μ-loop
-mul-above c = omega arith
+mul-above c = omega (arith, c .before .before .pre .0 .0 .few)
 
 shared-slice-read-above : tie.Need-shared-slice-read-above Inv-loop μ-loop
 shared-slice-read-above c = omega arith
 
 cast-above : tie.Need-cast-above Inv-loop μ-loop
-cast-above c = omega (arith, c .shared-slice-known8 .given (c .before .before .loop .i))
-
-add-count : tie.Need-add-count Inv-loop μ-loop
-add-count c = omega arith
-
-mul-count : tie.Need-mul-count Inv-loop μ-loop
-mul-count c = omega arith
-
-element-copy-out-count : tie.Need-element-copy-out-count Inv-loop μ-loop
-element-copy-out-count c = omega arith
-
-mul-count-2 : tie.Need-mul-count-2 Inv-loop μ-loop
-mul-count-2 c = omega arith
-
-element-copy-out-count-2 : tie.Need-element-copy-out-count-2 Inv-loop μ-loop
-element-copy-out-count-2 c = omega arith
-
-sub-count : tie.Need-sub-count Inv-loop μ-loop
-sub-count c = begins-in-order (start (c .before .before .before .before .before) .pre .0) (c .before .before .before .before .loop .i) (omega arith)
+cast-above c = omega (arith, lower c)
 
 element-copy-out-higher : tie.Need-element-copy-out-higher Inv-loop μ-loop
-element-copy-out-higher c =
-    let s = start (c .before .before .before .before .before) in
-    omega (arith, s .pre .0 .sound .lower (c .before .before .before .before .loop .i) (omega arith) (omega arith), s .pre .0 .sound .few)
+element-copy-out-higher c = omega (arith, lower c, start c .pre .0 .0 .few)
 
-turn-requires : tie.Need-turn-requires Inv-loop μ-loop
-turn-requires c κs =
-    let s = start (c .before .before .before .before .before .before) in
-    (s .pre .0 .sound .repeater-most, above-most (s .pre .0 .sound) _ (c .before .before .before .before .before .loop .inv .2) (omega arith) (omega arith))
+element-copy-out-own : tie.Need-element-copy-out-own Inv-loop μ-loop
+element-copy-out-own c = omega (arith, start (c .before) .pre .0 .0 .few)
+
+add-odd : tie.Need-add-odd Inv-loop μ-loop
+add-odd c = let s = start (c .before .before) in let l = c .before .before .before .before .loop in let t = l .inv .3 (s .args .limits) (s .pre .0 .0) (s .pre .0 .1) in omega (arith, above-most (s .pre .0 .0) _ t (l .inv .2) (omega arith) (omega arith), own-most (s .pre .0 .0) _ t (l .inv .2) (omega arith) (omega arith))
 
 element-write-odd-2 : tie.Need-element-write-odd-2 Inv-loop μ-loop
-element-write-odd-2 c = omega arith
+element-write-odd-2 c = omega (arith, start (c .before .before) .pre .0 .0 .few)
 
 add-i : tie.Need-add-i Inv-loop μ-loop
 add-i c = omega arith
@@ -77,15 +61,10 @@ loop-less : tie.Need-loop-less Inv-loop μ-loop
 loop-less c = omega arith
 
 loop-again : tie.Need-loop-again Inv-loop μ-loop
-loop-again c =
-    let s = start (c .before .before .before .before .before .before .before) in (
-      omega arith,
-      omega arith,
-      turned-more (s .pre .0 .sound) _ (c .before .before .before .before .before .before .loop .inv .2) (omega arith) (omega arith) _ (c .turn .result) (on-count (s .pre .0) (c .before .before .before .before .before .before .loop .i) (omega arith)) (c .turn .ensures),
-    )
+loop-again c = let s = start (c .before .before) in let l = c .before .before .before .before .loop in (omega arith, omega arith, counted-more (s .pre .0 .0) _ (l .inv .3 (s .args .limits) (s .pre .0 .0) (s .pre .0 .1)) (l .inv .2) (omega arith) (omega arith) _, λ limits k u. turned-more k _ (l .inv .3 limits k u) (l .inv .2) (omega arith) (omega arith) _ u refl)
 
 returns : tie.Need-returns Inv-loop μ-loop
-returns c = let l = c .before .loop in let e : l .i ≡ length (start (c .before .before) .args .parent .now) = omega arith in rw e at (l .inv .2)
+returns c = let l = c .before .loop in let s = c .before .before in let e : l .i ≡ length (s .args .parent .now) = omega arith in rw e at (l .inv .3 (s .args .limits) (s .pre .0 .0) (s .pre .0 .1))
 
 pub turns-spec : {M : Type 1} → statement M
 turns-spec =
@@ -98,14 +77,9 @@ turns-spec =
     mul-above
     shared-slice-read-above
     cast-above
-    add-count
-    mul-count
-    element-copy-out-count
-    mul-count-2
-    element-copy-out-count-2
-    sub-count
     element-copy-out-higher
-    turn-requires
+    element-copy-out-own
+    add-odd
     element-write-odd-2
     add-i
     loop-less

@@ -1,15 +1,19 @@
 -- The cycle of calls {handed_up, load_below}: a node asks each wire below it and a wire asks the node at its lower end.
--- The falling number is twice (1,024 less the node number), plus one for a wire. The loop is Scan.antt's; the cases of a wire are Wire.antt's.
+-- The falling number is twice (1,024 less the node number), plus one for a wire. The loop is Scan.antt's, its ends are Spans.antt's, and a wire's part is Parts.antt's.
+-- What is asked for is shown of every net whose tables these are; that the numbers fit, of the one that the caller knows of.
 use Prim.Native.Nat.{ℕ, _<_, _+_, _-_, _*_}
-use mathlib.Core.Path.{sym}
+use mathlib.Core.Path.{sym, ap}
+use mathlib.Core.List.{List}
 use native.Mathlib.Omega.{arith}
 use borrow.Fn.Kinds.{In}
 use borrow.Fn.PlainCycle.{Measures, is, falls, and}
 use lib.ListN.{length}
-use Rattle.net.specs.Net.{net}
-use Rattle.net.specs.Load.{entries, offsetsOn}
-use Rattle.load.proofs.Wire.{load-fits, end-within, last-fits, handed-past, handed-clear}
-use Rattle.load.proofs.Scan.{load-sink, Scan, scan-start, scan-found, scan-next, scan-most, scan-over}
+use Rattle.net.specs.Net.{Net}
+use Rattle.load.specs.Asks.{AsksNode}
+use Rattle.load.proofs.Bound.{load-most}
+use Rattle.load.proofs.Parts.{handed-shut, handed-open, open-branch, own-most}
+use Rattle.load.proofs.Spans.{none-before, none-after, span-within}
+use Rattle.load.proofs.Scan.{Scan, scan-start, searched, found-child, found-none, scan-next, scan-most, scan-over}
 use Rattle.load.proofs.handed_up.Reads as handed-up
 use Rattle.load.proofs.handed_up.Kinds as handed-up-kinds
 use Rattle.load.proofs.+handed_up+load_below.Lts-handed_up as H
@@ -20,31 +24,31 @@ use Rattle.load.proofs.next_child.Reads as next-child-reads
 use Rattle.load.proofs.+handed_up+load_below.{statement}
 use Rattle.load.proofs.+handed_up+load_below.Tie.{close}
 
-abbrev μ-handed-up : Measures 8 handed-up-kinds.ps ℕ
-μ-handed-up κs a = 2 * (1024 - a .1 .1 .1 .1 .1 .1 .1 .1 .1 .0) + 1
+abbrev μ-handed-up : Measures 5 handed-up-kinds.ps ℕ
+μ-handed-up κs a = 2 * (1024 - a .1 .1 .1 .1 .1 .0) + 1
 
-abbrev μ-load-below : Measures 8 load-below-kinds.ps ℕ
-μ-load-below κs a = 2 * (1024 - a .1 .1 .1 .1 .1 .1 .1 .1 .1 .0)
+abbrev μ-load-below : Measures 5 load-below-kinds.ps ℕ
+μ-load-below κs a = 2 * (1024 - a .1 .1 .1 .1 .1 .0)
 
 abbrev Inv-loop : L.InvT-loop
-Inv-loop limits parent wire kind pin polarity wires offsets first node sum₀ after₀ sum after =
-    Scan (net limits parent wire kind pin polarity) (offsetsOn (entries wires offsets)) node sum after
+Inv-loop parent own shut gap reach node sum₀ after₀ last sum after =
+    (n : Net) (offs : ℕ → List ℕ) → AsksNode n offs parent own shut gap reach node → Scan n offs node sum after
 
 abbrev μ-loop : L.MeasureT-loop
-μ-loop limits parent wire kind pin polarity wires offsets first node sum₀ after₀ sum after = length parent - after
+μ-loop parent own shut gap reach node sum₀ after₀ last sum after = length parent - after
 
 -- what each is given at the measure t, what a call of each asks below t, and what each knows of those that it calls
-abbrev at-h : ℕ → In 8 handed-up-kinds.ps
-at-h t = and 8 handed-up-kinds.ps (is 8 handed-up-kinds.ps μ-handed-up t) handed-up.Pre
+abbrev at-h : ℕ → In 5 handed-up-kinds.ps
+at-h t = and 5 handed-up-kinds.ps (is 5 handed-up-kinds.ps μ-handed-up t) handed-up.Pre
 
-abbrev below-h : ℕ → In 8 handed-up-kinds.ps
-below-h t = and 8 handed-up-kinds.ps (falls 8 handed-up-kinds.ps _<_ μ-handed-up t) handed-up.Pre
+abbrev below-h : ℕ → In 5 handed-up-kinds.ps
+below-h t = and 5 handed-up-kinds.ps (falls 5 handed-up-kinds.ps _<_ μ-handed-up t) handed-up.Pre
 
-abbrev at-l : ℕ → In 8 load-below-kinds.ps
-at-l t = and 8 load-below-kinds.ps (is 8 load-below-kinds.ps μ-load-below t) load-below.Pre
+abbrev at-l : ℕ → In 5 load-below-kinds.ps
+at-l t = and 5 load-below-kinds.ps (is 5 load-below-kinds.ps μ-load-below t) load-below.Pre
 
-abbrev below-l : ℕ → In 8 load-below-kinds.ps
-below-l t = and 8 load-below-kinds.ps (falls 8 load-below-kinds.ps _<_ μ-load-below t) load-below.Pre
+abbrev below-l : ℕ → In 5 load-below-kinds.ps
+below-l t = and 5 load-below-kinds.ps (falls 5 load-below-kinds.ps _<_ μ-load-below t) load-below.Pre
 
 abbrev calls-h : ℕ → H.Claims
 calls-h t = (below-l t, load-below.Post)
@@ -53,90 +57,81 @@ abbrev calls-l : ℕ → L.Claims
 calls-l t = (next-child-reads.Asked, next-child-reads.Learnt, below-h t, handed-up.Post)
 
 module _ (t : ℕ) where
-  -- the entry of each, from where its slices are known
-  abbrev start-h : H.After-shared-slice-known8 (calls-h t) (at-h t) handed-up.Post → H.Start (calls-h t) (at-h t) handed-up.Post
-  start-h c = c .before .before .before .before .before .before .before .before
+  h-mul-part : H.Need-mul-part (calls-h t) (at-h t) handed-up.Post
+  h-mul-part c = let a = c .before .pre .1 .asks in omega (arith, a .within, a .tables .sound .few)
 
-  abbrev start-l : L.After-shared-slice-known8 (calls-l t) (at-l t) load-below.Post Inv-loop μ-loop → L.Start (calls-l t) (at-l t) load-below.Post Inv-loop μ-loop
-  start-l c = c .before .before .before .before .before .before .before .before
+  h-element-copy-out-part : H.Need-element-copy-out-part (calls-h t) (at-h t) handed-up.Post
+  h-element-copy-out-part c = let a = c .before .pre .1 .asks in omega (arith, a .within, a .tables .sound .few)
 
-  h-mul-size : H.Need-mul-size (calls-h t) (at-h t) handed-up.Post
-  h-mul-size c = omega arith
-
-  h-shared-slice-read-size : H.Need-shared-slice-read-size (calls-h t) (at-h t) handed-up.Post
-  h-shared-slice-read-size c = omega arith
-
-  h-cast-size : H.Need-cast-size (calls-h t) (at-h t) handed-up.Post
-  h-cast-size c = let s = start-h c in omega (arith, s .pre .1 .placed .sound .wire-most (s .args .i))
-
-  h-add-end : H.Need-add-end (calls-h t) (at-h t) handed-up.Post
-  h-add-end c = omega arith
-
-  h-mul-end : H.Need-mul-end (calls-h t) (at-h t) handed-up.Post
-  h-mul-end c = omega arith
-
-  h-element-copy-out-end : H.Need-element-copy-out-end (calls-h t) (at-h t) handed-up.Post
-  h-element-copy-out-end c = omega arith
-
-  h-mul-if1 : H.Need-mul-if1 (calls-h t) (at-h t) handed-up.Post
-  h-mul-if1 c = omega arith
+  h-cast-part : H.Need-cast-part (calls-h t) (at-h t) handed-up.Post
+  h-cast-part c = let s = c .before .before in let a = s .pre .1 .asks in omega (arith, own-most (a .tables .parts) (s .args .i) (a .tables .sound))
 
   h-element-copy-out-if1 : H.Need-element-copy-out-if1 (calls-h t) (at-h t) handed-up.Post
-  h-element-copy-out-if1 c = omega arith
-
-  h-sub-last : H.Need-sub-last (calls-h t) (at-h t) handed-up.Post
-  h-sub-last c = omega arith
-
-  h-mul-last : H.Need-mul-last (calls-h t) (at-h t) handed-up.Post
-  h-mul-last c = let s = start-h (c .before .before .before) in omega (arith, end-within (s .pre .1 .placed) (s .args .i) (s .pre .1 .within))
-
-  h-shared-slice-read-last : H.Need-shared-slice-read-last (calls-h t) (at-h t) handed-up.Post
-  h-shared-slice-read-last c = let s = start-h (c .before .before .before .before) in omega (arith, end-within (s .pre .1 .placed) (s .args .i) (s .pre .1 .within))
-
-  h-cast-last : H.Need-cast-last (calls-h t) (at-h t) handed-up.Post
-  h-cast-last c = let s = start-h (c .before .before .before .before) in omega (arith, last-fits (s .pre .1 .placed) (s .args .i) (s .pre .1 .within) (c .before .if1 .taken), s .pre .1 .placed .sound .wire-most (s .args .i))
-
-  h-sub-result : H.Need-sub-result (calls-h t) (at-h t) handed-up.Post
-  h-sub-result c = let s = start-h (c .before .before .before .before) in last-fits (s .pre .1 .placed) (s .args .i) (s .pre .1 .within) (c .before .if1 .taken)
-
-  h-cast-result : H.Need-cast-result (calls-h t) (at-h t) handed-up.Post
-  h-cast-result c = omega arith
-
-  h-add-result : H.Need-add-result (calls-h t) (at-h t) handed-up.Post
-  h-add-result c = let s = start-h (c .before .before .before .before .before) in omega (arith, s .pre .1 .placed .sound .wire-most (s .args .i), s .pre .1 .placed .sound .half, s .pre .1 .placed .sound .limit-most)
+  h-element-copy-out-if1 c = let a = c .before .before .pre .1 .asks in omega (arith, a .within, a .tables .sound .few)
 
   h-returns : H.Need-returns (calls-h t) (at-h t) handed-up.Post
-  h-returns c = let s = start-h (c .before .before .before .before .before) in sym (handed-past (s .pre .1 .placed) (s .args .i) (s .pre .1 .within) (c .before .before .if1 .taken))
+  h-returns c = λ n offs a. sym (handed-shut (a .tables .parts) (c .before .before .before .before .args .i) (c .if1 .taken))
 
   h-load-below-requires : H.Need-load-below-requires (calls-h t) (at-h t) handed-up.Post
-  h-load-below-requires c κs = let s = start-h (c .before .before .before) in (omega (arith, s .pre .0), record { placed = s .pre .1 .placed; within = s .pre .1 .within })
+  h-load-below-requires c κs =
+      let s = c .before .before .before .before in
+      let a = s .pre .1 .asks in
+      (omega (arith, s .pre .0), record { net = s .pre .1 .net; offs = s .pre .1 .offs; asks = record { asks = a; branch = open-branch (a .tables .parts) (s .args .i) (c .if1 .left) } })
 
-  h-add-result-2 : H.Need-add-result-2 (calls-h t) (at-h t) handed-up.Post
-  h-add-result-2 c = let s = start-h (c .before .before .before .before) in omega (arith, load-fits (s .pre .1 .placed) (s .args .i) (c .load-below .result) (s .pre .1 .within) (c .load-below .ensures), s .pre .1 .placed .sound .wire-most (s .args .i))
+  h-add-result : H.Need-add-result (calls-h t) (at-h t) handed-up.Post
+  h-add-result c =
+      let s = c .before .before .before .before .before in
+      let a = s .pre .1 .asks in
+      omega (
+        arith,
+        own-most (a .tables .parts) (s .args .i) (a .tables .sound),
+        c .load-below .ensures (s .pre .1 .net) (s .pre .1 .offs) (record { asks = a; branch = open-branch (a .tables .parts) (s .args .i) (c .before .if1 .left) }),
+        load-most (a .tables .sound) (s .pre .1 .offs) (s .args .i) (a .within),
+      )
 
   h-returns-2 : H.Need-returns-2 (calls-h t) (at-h t) handed-up.Post
-  h-returns-2 c = let s = start-h (c .before .before .before .before) in omega (arith, c .load-below .ensures, handed-clear (s .pre .1 .placed) (s .args .i) (s .pre .1 .within) (c .before .if1 .left))
+  h-returns-2 c = λ n offs a.
+      let i = c .before .before .before .before .before .args .i in
+      let open-here = c .before .if1 .left in
+      omega (arith, c .load-below .ensures n offs (record { asks = a; branch = open-branch (a .tables .parts) i open-here }), handed-open (a .tables .parts) i open-here)
 
-  l-shared-slice-read-if1 : L.Need-shared-slice-read-if1 (calls-l t) (at-l t) load-below.Post Inv-loop μ-loop
-  l-shared-slice-read-if1 c = omega arith
+  l-mul-after : L.Need-mul-after (calls-l t) (at-l t) load-below.Post Inv-loop μ-loop
+  l-mul-after c = let a = c .before .pre .1 .asks .asks in omega (arith, a .within, a .tables .sound .few)
 
-  l-mul-own : L.Need-mul-own (calls-l t) (at-l t) load-below.Post Inv-loop μ-loop
-  l-mul-own c = omega arith
+  l-element-copy-out-after : L.Need-element-copy-out-after (calls-l t) (at-l t) load-below.Post Inv-loop μ-loop
+  l-element-copy-out-after c = let a = c .before .pre .1 .asks .asks in omega (arith, a .within, a .tables .sound .few)
 
-  l-shared-slice-read-own : L.Need-shared-slice-read-own (calls-l t) (at-l t) load-below.Post Inv-loop μ-loop
-  l-shared-slice-read-own c = omega arith
+  l-cast-after : L.Need-cast-after (calls-l t) (at-l t) load-below.Post Inv-loop μ-loop
+  l-cast-after c = let s = c .before .before in let a = s .pre .1 .asks .asks in omega (arith, span-within (a .tables .spans .span (s .args .node)) (a .within), a .tables .sound .few)
 
-  l-cast-own : L.Need-cast-own (calls-l t) (at-l t) load-below.Post Inv-loop μ-loop
-  l-cast-own c = let s = start-l (c .before .before) in omega (arith, s .pre .1 .placed .sound .pin-most (s .args .node))
+  l-add-after : L.Need-add-after (calls-l t) (at-l t) load-below.Post Inv-loop μ-loop
+  l-add-after c = let s = c .before .before in let a = s .pre .1 .asks .asks in omega (arith, span-within (a .tables .spans .span (s .args .node)) (a .within), a .tables .sound .few)
 
-  l-returns : L.Need-returns (calls-l t) (at-l t) load-below.Post Inv-loop μ-loop
-  l-returns c = let s = start-l (c .before .before) in sym (load-sink _ _ (s .args .node) (c .before .if1 .taken))
+  l-mul-last : L.Need-mul-last (calls-l t) (at-l t) load-below.Post Inv-loop μ-loop
+  l-mul-last c = let a = c .before .before .pre .1 .asks .asks in omega (arith, a .within, a .tables .sound .few)
+
+  l-element-copy-out-last : L.Need-element-copy-out-last (calls-l t) (at-l t) load-below.Post Inv-loop μ-loop
+  l-element-copy-out-last c = let a = c .before .before .pre .1 .asks .asks in omega (arith, a .within, a .tables .sound .few)
+
+  l-cast-last : L.Need-cast-last (calls-l t) (at-l t) load-below.Post Inv-loop μ-loop
+  l-cast-last c = let s = c .before .before .before in let a = s .pre .1 .asks .asks in omega (arith, span-within (a .tables .spans .span (s .args .node)) (a .within), a .tables .sound .few)
+
+  l-add-last : L.Need-add-last (calls-l t) (at-l t) load-below.Post Inv-loop μ-loop
+  l-add-last c = let s = c .before .before .before in let a = s .pre .1 .asks .asks in omega (arith, span-within (a .tables .spans .span (s .args .node)) (a .within), a .tables .sound .few)
 
   l-loop-holds : L.Need-loop-holds (calls-l t) (at-l t) load-below.Post Inv-loop μ-loop
-  l-loop-holds c = let s = start-l (c .before) in scan-start _ (s .pre .1 .within) (c .if1 .left)
+  l-loop-holds c = λ n offs a.
+      let x = a .asks .tables .spans .span (c .before .before .before .args .node) in
+      scan-start offs _ (omega arith) (omega (arith, span-within x (a .asks .within))) (none-before x) (a .branch)
+
+  -- the entry, from the loop's test
+  abbrev start : L.In-loop (calls-l t) (at-l t) load-below.Post Inv-loop μ-loop → L.Start (calls-l t) (at-l t) load-below.Post Inv-loop μ-loop
+  start c = c .before .before .before .before .before
 
   l-next-child-requires : L.Need-next-child-requires (calls-l t) (at-l t) load-below.Post Inv-loop μ-loop
-  l-next-child-requires c κs = let s = start-l (c .before .before) in record { few = s .pre .1 .placed .sound .few; node = s .pre .1 .within; within = c .loop .inv .within; lower = s .pre .1 .placed .sound .lower }
+  l-next-child-requires c κs =
+      let p = start c .pre .1 in
+      searched (p .net) (p .asks .asks .column) (p .asks .asks .tables .sound) (p .asks .asks .within) (c .before .loop .inv (p .net) (p .offs) (p .asks) .within)
 
   l-enum-known-next : L.Need-enum-known-next (calls-l t) (at-l t) load-below.Post Inv-loop μ-loop
   l-enum-known-next c = omega arith
@@ -144,24 +139,41 @@ module _ (t : ℕ) where
   l-enum-told : L.Need-enum-told (calls-l t) (at-l t) load-below.Post Inv-loop μ-loop
   l-enum-told c = omega arith
 
-  l-returns-2 : L.Need-returns-2 (calls-l t) (at-l t) load-below.Post Inv-loop μ-loop
-  l-returns-2 c = scan-over (c .before .before .before .loop .inv) _ (c .before .before .next-child .ensures) (c .enum-told .given .1)
+  l-returns : L.Need-returns (calls-l t) (at-l t) load-below.Post Inv-loop μ-loop
+  l-returns c = λ n offs a.
+      scan-over (c .before .before .before .before .loop .inv n offs a) (found-none n (a .asks .column) _ _ _ (c .before .before .next-child .ensures) (c .enum-told .given .1))
 
   l-handed-up-requires : L.Need-handed-up-requires (calls-l t) (at-l t) load-below.Post Inv-loop μ-loop
-  l-handed-up-requires c κs = let s = start-l (c .before .before .before .before .before .before) in let l = c .before .before .before .before .loop in let x = scan-found (l .inv) _ _ (c .before .before .before .next-child .ensures) (c .before .next .given .1) in (omega (arith, s .pre .0, x .later, x .within, l .inv .from, s .pre .1 .placed .sound .few), record { placed = s .pre .1 .placed; within = x .within })
-
-  l-loop-less : L.Need-loop-less (calls-l t) (at-l t) load-below.Post Inv-loop μ-loop
-  l-loop-less c = let l = c .before .before .before .before .before .loop in let x = scan-found (l .inv) _ _ (c .before .before .before .before .next-child .ensures) (c .before .before .next .given .1) in omega (arith, x .later, x .within)
+  l-handed-up-requires c κs =
+      let s = start (c .before .before .before .before) in
+      let p = s .pre .1 in
+      let a = p .asks .asks in
+      let l = c .before .before .before .before .before .loop .inv (p .net) (p .offs) (p .asks) in
+      let x = found-child (p .net) (a .column) _ _ _ (c .before .before .before .next-child .ensures) _ (c .before .next .given .1) in
+      (omega (arith, s .pre .0, x .later, x .within, l .from, a .tables .sound .few), record { net = p .net; offs = p .offs; asks = record { column = a .column; tables = a .tables; within = x .within } })
 
   l-loop-again : L.Need-loop-again (calls-l t) (at-l t) load-below.Post Inv-loop μ-loop
-  l-loop-again c = let l = c .before .before .before .before .before .loop in let x = scan-found (l .inv) _ _ (c .before .before .before .before .next-child .ensures) (c .before .before .next .given .1) in scan-next (l .inv) x (c .handed-up .result) (c .handed-up .ensures)
+  l-loop-again c = λ n offs a.
+      let x = found-child n (a .asks .column) _ _ _ (c .before .before .before .before .next-child .ensures) _ (c .before .before .next .given .1) in
+      scan-next (c .before .before .before .before .before .before .loop .inv n offs a) x (c .handed-up .result) (c .handed-up .ensures n offs (record { column = a .asks .column; tables = a .asks .tables; within = x .within }))
 
   l-add-sum : L.Need-add-sum (calls-l t) (at-l t) load-below.Post Inv-loop μ-loop
-  l-add-sum c = let s = start-l (c .before .before .before .before .before .before .before) in omega (arith, scan-most (l-loop-again c) (s .pre .1 .placed .sound))
+  l-add-sum c = let p = start (c .before .before .before .before .before) .pre .1 in omega (arith, scan-most (l-loop-again c (p .net) (p .offs) (p .asks)) (p .asks .asks .tables .sound))
+
+  l-loop-less : L.Need-loop-less (calls-l t) (at-l t) load-below.Post Inv-loop μ-loop
+  l-loop-less c =
+      let p = start (c .before .before .before .before .before) .pre .1 in
+      let x = found-child (p .net) (p .asks .asks .column) _ _ _ (c .before .before .before .before .next-child .ensures) _ (c .before .before .next .given .1) in
+      omega (arith, x .later, x .within, ap length (p .asks .asks .column))
+
+  l-returns-2 : L.Need-returns-2 (calls-l t) (at-l t) load-below.Post Inv-loop μ-loop
+  l-returns-2 c = λ n offs a.
+      let x = a .asks .tables .spans .span (c .before .before .before .before .before .args .node) in
+      scan-over (c .before .loop .inv n offs a) (λ k lo hi. none-after x k (omega (arith, c .loop-test .left)) hi)
 
 pub +handed-up+load-below-spec : {M : Type 1} → statement M
 +handed-up+load-below-spec = close μ-handed-up μ-load-below
     (λ t. H.spec (calls-h t) (at-h t) handed-up.Post
-    (h-mul-size t) (h-shared-slice-read-size t) (h-cast-size t) (h-add-end t) (h-mul-end t) (h-element-copy-out-end t) (h-mul-if1 t) (h-element-copy-out-if1 t) (h-sub-last t) (h-mul-last t) (h-shared-slice-read-last t) (h-cast-last t) (h-sub-result t) (h-cast-result t) (h-add-result t) (h-returns t) (h-load-below-requires t) (h-add-result-2 t) (h-returns-2 t))
+    (h-mul-part t) (h-element-copy-out-part t) (h-cast-part t) (h-element-copy-out-if1 t) (h-returns t) (h-load-below-requires t) (h-add-result t) (h-returns-2 t))
     (λ t. L.spec (calls-l t) (at-l t) load-below.Post Inv-loop μ-loop
-    (l-shared-slice-read-if1 t) (l-mul-own t) (l-shared-slice-read-own t) (l-cast-own t) (l-returns t) (l-loop-holds t) (l-next-child-requires t) (l-enum-known-next t) (l-enum-told t) (l-returns-2 t) (l-handed-up-requires t) (l-add-sum t) (l-loop-less t) (l-loop-again t))
+    (l-mul-after t) (l-element-copy-out-after t) (l-cast-after t) (l-add-after t) (l-mul-last t) (l-element-copy-out-last t) (l-cast-last t) (l-add-last t) (l-loop-holds t) (l-next-child-requires t) (l-enum-known-next t) (l-enum-told t) (l-returns t) (l-handed-up-requires t) (l-add-sum t) (l-loop-less t) (l-loop-again t) (l-returns-2 t))

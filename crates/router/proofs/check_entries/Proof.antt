@@ -1,7 +1,7 @@
 -- `check_entries` answers the checker's number: its two parts are the columns' first n places.
 use mathlib.Core.Path.{sym, ap, _∙_}
 use lib.Seq.{length-take-le}
-use Rattle.router.specs.Routed.{verdictNumber}
+use Rattle.checker.specs.Verdict.{verdictNumber}
 use Rattle.router.proofs.Routing.{verdict-number}
 use borrow.Author.Needs.{needs}
 use Rattle.router.proofs.check_entries.Statement.{statement}
