@@ -54,10 +54,10 @@ each-tag (row ∷ rows) P all t h = by (eqb t (row .0)) refl h (each-tag rows P 
     by false e k later = later k
 
 -- tag and numbers of what is read in a field of tag t
-abbrev Kept : ℕ → Type 0
+abbrev pub Kept : ℕ → Type 0
 Kept t = (l : List ℕ) → (tagOf (valueIn t l) ≡ t) × (numbersOf (valueIn t l) ≡ numbersAt (widthsOf t) l 3)
 
-kept : (t : ℕ) → lengthOf t < 65536 → Kept t
+pub kept : (t : ℕ) → lengthOf t < 65536 → Kept t
 kept = each-tag table Kept ((λ l. (refl, refl)), ((λ l. (refl, refl)), ((λ l. (refl, refl)), ((λ l. (refl, refl)), ((λ l. (refl, refl)), ((λ l. (refl, refl)), tt))))))
 
 -- a field of tag t, from its header on

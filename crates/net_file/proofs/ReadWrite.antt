@@ -24,7 +24,10 @@ use Rattle.field.specs.declared.Value.the-variants.{Limits as LimitsField, Bran
 use Rattle.field.specs.declared.Field.{Field}
 use Rattle.field.specs.declared.FieldRead.{FieldRead}
 use Rattle.field.specs.declared.FieldRead.the-variants.{Got, Cut, Refused as NoField}
-use Rattle.field.specs.Format.{fieldAt, bytesOf}
+use Rattle.field.specs.declared.DueRead.{DueRead}
+use Rattle.field.specs.declared.DueRead.the-variants.{Got as Due, Refused as NotThere}
+use Rattle.field.specs.Format.{fieldAt, dueAt, bytesOf}
+use Rattle.field.proofs.Due.{found}
 use Rattle.field.proofs.Numbers.{AreBytes}
 use Rattle.field.proofs.RoundTrip.{Stands, written-read}
 use Rattle.net_file.specs.declared.Front.the-variants.{Limits as Found, Refused as NotFound}
@@ -70,10 +73,9 @@ end-value at next (Sink p w c q) e = never (cc)
 end-value at next (Count n) e = never (cc)
 end-value at next (Entry x) e = never (cc)
 
-front-field : (l : Limits) (g : FieldRead) → frontOf g ≡ Found l → (f : Field) × (g ≡ Got f) × (f .value ≡ LimitsField l) × (limitsInRange l ≡ true)
-front-field l (Got f) e = let (v, r) = front-value (f .at) l (f .value) e in (f, refl, v, r)
-front-field l (Cut t place) e = never (cc)
-front-field l (NoField r) e = never (cc)
+front-field : (l : Limits) (d : DueRead) → frontOf d ≡ Found l → (f : Field) × (d ≡ Due f) × (f .value ≡ LimitsField l) × (limitsInRange l ≡ true)
+front-field l (Due f) e = let (v, r) = front-value (f .at) l (f .value) e in (f, refl, v, r)
+front-field l (NotThere r) e = never (cc)
 
 node-field : (d : Node) (next : ℕ) (g : FieldRead) → takenOf g ≡ OneNode d next → (f : Field) × (g ≡ Got f) × (f .value ≡ fieldOf d) × (next ≡ f .at + length (bytesOf (f .value)))
 node-field d next (Got f) e = let (v, n) = node-value (f .at) d next (f .value) e in (f, refl, v, n)
@@ -156,8 +158,8 @@ pub same-bytes : (s : List ℕ) (n : Net) → AreBytes s → netOf s ≡ read n 
 unfolding judged
 same-bytes s n by e =
     let w : WasRead s n = was-read s n e in
-    let (f, got, v, r) = front-field (n .limits) (fieldAt s 0) (w .front) in
-    let (front, place) = split s by 0 f (LimitsField (n .limits)) got v in
+    let (f, due, v, r) = front-field (n .limits) (dueAt 1 s 0) (w .front) in
+    let (front, place) = split s by 0 f (LimitsField (n .limits)) (found 1 (fieldAt s 0) due .0) v in
     let m : places n ≡ suc (length (nodesOf (fieldsOf s))) = ap places (w .is) ∙ places-are (n .limits) (source ∷ nodesOf (fieldsOf s)) in
     let k : places n - 1 ≡ length (nodesOf (fieldsOf s)) = omega arith in
     let (nodes, c) = columns-judged n (length s) 1 (fieldsOf s) (w .sound) in

@@ -24,8 +24,9 @@ use Rattle.net.proofs.Each.{each-met}
 use Rattle.net.proofs.SoundSays.{sound-says}
 use Rattle.field.specs.declared.Value.{Value}
 use Rattle.field.specs.declared.Value.the-variants.{Limits as LimitsField, Branch, Sink, End}
+use Rattle.field.specs.declared.FieldRead.{FieldRead}
 use Rattle.field.specs.declared.FieldRead.the-variants.{Got}
-use Rattle.field.specs.Format.{fieldIn, fieldAt, bytesOf, Fitting}
+use Rattle.field.specs.Format.{fieldIn, fieldAt, dueIn, dueAt, bytesOf, Fitting}
 use Rattle.field.proofs.RoundTrip.{read-written}
 use Rattle.net_file.specs.declared.Front.the-variants.{Limits as Found}
 use Rattle.net_file.specs.declared.Taken.{Taken}
@@ -168,8 +169,8 @@ module _ (n : Net) (holds : judged n ≡ Sound) where
   read-back =
       let f : SoundNet n = facts in
       let fit : Fitting (LimitsField (n .limits)) = (omega (arith, f .limit-most), (omega (arith, f .limit-most, f .half), (omega (arith, f .repeater-most), tt))) in
-      let front : frontOf (fieldAt (netBytes n) 0) ≡ Found (n .limits)
-      = ap frontOf (field-back (netBytes n) 0 (LimitsField (n .limits)) (bytesFrom (node n) (places n - 1) 1) fit refl) ∙ rw (met .1) in
+      let front : frontOf (dueAt 1 (netBytes n) 0) ≡ Found (n .limits)
+      = ap (λ (g : FieldRead). frontOf (dueIn 1 g)) (field-back (netBytes n) 0 (LimitsField (n .limits)) (bytesFrom (node n) (places n - 1) 1) fit refl) ∙ rw (met .1) in
       let b : Back (netBytes n) 1025 12 (places n - 1) 1 = back (netBytes n) (places n - 1) 1025 12 1 (omega (arith, f .few)) (omega arith) (omega (arith, f .some)) refl in
       let is : netWith (n .limits) (fieldsOf (netBytes n)) ≡ n = ap (λ (ds : List Node). columnsOf (n .limits) (source ∷ ds)) (b .nodes) ∙ columns-back in
       ap (fromFront (netBytes n)) front

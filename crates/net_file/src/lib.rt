@@ -8,9 +8,10 @@ ghost use lib.Seq.{sets};
 ghost use Rattle.net.specs.Net.{netAt, node};
 ghost use Rattle.net.specs.Judge.{unless, thenJudge, childedBy};
 ghost use Rattle.net.specs.Counted.{unlimited, Within, Level};
-ghost use Rattle.field.specs.Format.{fieldAt, bytesOf};
-ghost use Rattle.net_file.specs.NetFile.{cutAt, frontValue, frontOf, nodeDue, takenValue, takenAt, netFrom, netOf, columnsOf, laidOver, ReadNet, fieldOf, netBytes, WroteNet};
+ghost use Rattle.field.specs.Format.{cutAt, dueAt, bytesOf};
+ghost use Rattle.net_file.specs.NetFile.{frontValue, frontOf, nodeDue, takenValue, takenAt, netFrom, netOf, columnsOf, laidOver, ReadNet, fieldOf, netBytes, WroteNet};
 ghost use Rattle.net_file.specs.Own.{blank, listed, Room, JudgedFile};
+use field::DueRead;
 use field::Field;
 use field::FieldRead;
 use field::Value;
@@ -71,13 +72,12 @@ fn front_of(f: Field) -> Front
 
 // The limits at the front of a file.
 fn read_front(s: &[u8]) -> Front
-    ensures { λ r. ⌜ r ≡ frontOf (fieldAt (now (s .entry)) 0) ⌝ }
+    ensures { λ r. ⌜ r ≡ frontOf (dueAt 1 (now (s .entry)) 0) ⌝ }
 {
-    let got = field::read_field(s, 0);
+    let got = field::read_due(s, 0, 1);
     match got {
-        FieldRead::Got(f) => front_of(f),
-        FieldRead::Cut { tag, place } => Front::Refused(cut(tag == 1, place)),
-        FieldRead::Refused(r) => Front::Refused(r),
+        DueRead::Got(f) => front_of(f),
+        DueRead::Refused(r) => Front::Refused(r),
     }
 }
 

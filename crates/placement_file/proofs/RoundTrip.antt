@@ -9,7 +9,7 @@ use mathlib.Core.Bool.{Bool, true}
 use lib.ListN.{length, take, drop, length-drop, take-append-drop, drop-of-length-le}
 use lib.Seq.{drop-drop, drop-at}
 use lib.Dec.{ltb, leb, eqb}
-use borrow.Author.Tests.{leb-true, le-leb, eqb-true, eq-eqb}
+use borrow.Author.Tests.{leb-true, le-leb, eq-eqb}
 use Rattle.net.specs.Figures.{mostNodes, mostWire, mostEntries}
 use Rattle.net.specs.Choose.{pick, both}
 use Rattle.net.specs.Judge.{unless, judgeEach}
@@ -21,13 +21,16 @@ use Rattle.net.specs.declared.Judged.{Judged}
 use Rattle.net.specs.declared.Judged.the-variants.{Sound, Refused as Unsound}
 use Rattle.net.proofs.Tests.{both-met, both-true, then-met, unless-met}
 use Rattle.net.proofs.Each.{each-met, each-sound}
-use Rattle.field.specs.Format.{tagOf, numbersOf, valueOf, fieldIn, fieldAt, bytesOf, Fitting}
+use Rattle.field.specs.Format.{tagOf, numbersOf, valueOf, fieldIn, fieldAt, dueIn, dueAt, bytesOf, Fitting}
 use Rattle.field.specs.declared.Value.{Value}
 use Rattle.field.specs.declared.Value.the-variants.{Limits, Branch, Sink, Count, Entry as AnEntry, End}
 use Rattle.field.specs.declared.Field.{Field}
 use Rattle.field.specs.declared.FieldRead.{FieldRead}
-use Rattle.field.specs.declared.FieldRead.the-variants.{Got, Cut, Refused as NoField}
+use Rattle.field.specs.declared.FieldRead.the-variants.{Got}
+use Rattle.field.specs.declared.DueRead.{DueRead}
+use Rattle.field.specs.declared.DueRead.the-variants.{Got as Due, Refused as Missing}
 use Rattle.field.proofs.Numbers.{AreBytes}
+use Rattle.field.proofs.Due.{found}
 use Rattle.field.proofs.RoundTrip.{read-written, written-read}
 use Rattle.placement_file.specs.File.{due, numbersIn, countIn, entryIn, entryInRange, owed, countJudged, startOf, entryAt, entryJudged, endJudged, bodyJudged, fileJudged, wire, offset, listed, placement, outcome, placementOf, columnEntry, rangeJudged, rangesJudged, columnsJudged, columnsOf, entriesBytes, placementBytes}
 use Rattle.placement_file.proofs.Judging.{sound-few, sound-columns, fits}
@@ -48,22 +51,20 @@ again (AnEntry e) = refl
 again End = refl
 
 -- where a tag is due and stands, the field is made of its numbers
-met : (tag : ℕ) (r : FieldRead) → due tag r ≡ Sound → (f : Field) × (r ≡ Got f) × (f .value ≡ valueOf tag (numbersIn tag r))
-met tag (Got f) e =
-    let t = unless-met (eqb (tagOf (f .value)) tag) (NotDue (f .at)) e in
-    let q : tagOf (f .value) ≡ tag = eqb-true (tagOf (f .value)) tag t in
-    (f, refl, again (f .value) ∙ ap (λ (x : ℕ). valueOf x (numbersOf (f .value))) q ∙ ap (λ (b : Bool). valueOf tag (pick b (numbersOf (f .value)) [])) (sym t))
-met tag (Cut t place) e = never (cc)
-met tag (NoField r) e = never (cc)
+met : (tag : ℕ) (r : FieldRead) (d : DueRead) → dueIn tag r ≡ d → due d ≡ Sound → (f : Field) × (r ≡ Got f) × (f .value ≡ valueOf tag (numbersIn tag d))
+met tag r (Due f) q e =
+    let (got, t) = found tag r q in
+    (f, got, again (f .value) ∙ ap (λ (x : ℕ). valueOf x (numbersOf (f .value))) t ∙ ap (λ (b : Bool). valueOf tag (pick b (numbersOf (f .value)) [])) (sym (eq-eqb (tagOf (f .value)) tag t)))
+met tag r (Missing x) q e = never (cc)
 
 -- the bytes from a place on are a field's and those after it
 abbrev Front : List ℕ → ℕ → Value → Type 0
 Front s at v = drop at s ≡ bytesOf v ++ drop (at + length (bytesOf v)) s
 
 module _ (s : List ℕ) (by : AreBytes s) where
-  front : (at tag : ℕ) → due tag (fieldAt s at) ≡ Sound → Front s at (valueOf tag (numbersIn tag (fieldAt s at)))
+  front : (at tag : ℕ) → due (dueAt tag s at) ≡ Sound → Front s at (valueOf tag (numbersIn tag (dueAt tag s at)))
   front at tag e =
-      let (f, got, same) = met tag (fieldAt s at) e in
+      let (f, got, same) = met tag (fieldAt s at) (dueAt tag s at) refl e in
       let bs = bytesOf (f .value) in
       let split : take (length bs) (drop at s) ++ drop (length bs) (drop at s) ≡ drop at s = take-append-drop (length bs) (drop at s) in
       subst (Front s at) same (sym split ∙ rw (written-read s at f by got .bytes, drop-drop (length bs) at s))
@@ -71,14 +72,14 @@ module _ (s : List ℕ) (by : AreBytes s) where
   entry-front : (i : ℕ) → entryJudged s i ≡ Sound → drop (startOf i) s ≡ bytesOf (AnEntry (entryAt s i)) ++ drop (startOf (suc i)) s
   unfolding entryJudged entryAt
   entry-front i e =
-      let (d, _) = then-met (due 18 (fieldAt s (startOf i))) (unless (entryInRange (entryAt s i)) (OutOfRange (startOf i))) e in
+      let (d, _) = then-met (due (dueAt 18 s (startOf i))) (unless (entryInRange (entryAt s i)) (OutOfRange (startOf i))) e in
       let n : startOf i + 9 ≡ startOf (suc i) = omega arith in
       front (startOf i) 18 d ∙ ap (λ (k : ℕ). bytesOf (AnEntry (entryAt s i)) ++ drop k s) n
 
   end-front : (at : ℕ) → endJudged s at ≡ Sound → drop at s ≡ bytesOf End
   unfolding endJudged
   end-front at e =
-      let (d, u) = then-met (due 127 (fieldAt s at)) (unless (leb (length s) (at + 3)) (BytesAfterEnd (at + 3))) e in
+      let (d, u) = then-met (due (dueAt 127 s at)) (unless (leb (length s) (at + 3)) (BytesAfterEnd (at + 3))) e in
       let n : length s ≤ at + 3 = leb-true (length s) (at + 3) (unless-met _ (BytesAfterEnd (at + 3)) u) in
       front at 127 d ∙ ap (λ (r : List ℕ). bytesOf End ++ r) (drop-of-length-le s n)
 
@@ -103,7 +104,7 @@ listed-ranged g (suc k) i h = (h i (omega arith) (omega arith), listed-ranged g 
 entry-ranged : (s : List ℕ) (i : ℕ) → entryJudged s i ≡ Sound → entryInRange (entryAt s i) ≡ true
 unfolding entryJudged
 entry-ranged s i e =
-    let (_, u) = then-met (due 18 (fieldAt s (startOf i))) (unless (entryInRange (entryAt s i)) (OutOfRange (startOf i))) e in
+    let (_, u) = then-met (due (dueAt 18 s (startOf i))) (unless (entryInRange (entryAt s i)) (OutOfRange (startOf i))) e in
     unless-met _ (OutOfRange (startOf i)) u
 
 -- entries that a file can hold
@@ -122,7 +123,7 @@ file-bytes s es by e =
     let (sound, q) = told (fileJudged s) (listed (entryAt s) (owed s) 0) es e in
     let (count, body) = then-met (countJudged s) (bodyJudged s (owed s)) sound in
     let (each, last) = then-met (judgeEach (entryJudged s) (owed s) 0) (endJudged s (startOf (owed s))) body in
-    let (d, _) = then-met (due 17 (fieldAt s 0)) (unless (leb (owed s) mostEntries) (OutOfRange 0)) count in
+    let (d, _) = then-met (due (dueAt 17 s 0)) (unless (leb (owed s) mostEntries) (OutOfRange 0)) count in
     let n : length es ≡ owed s = ap length (sym q) ∙ length-listed (entryAt s) (owed s) 0 in
     let z : 0 + owed s ≡ owed s = omega arith in (
       record { few = omega (arith, sound-few s sound); ranged = subst Ranged q (listed-ranged (entryAt s) (owed s) 0 (λ j lo hi. entry-ranged s j (each-met (entryJudged s) (owed s) 0 each j lo hi))) },
@@ -207,7 +208,7 @@ module _ (s : List ℕ) where
       let (got, rest) = got-at (startOf i) (AnEntry x) (entriesBytes es) (entry-fits x (h .0)) e in
       let next : startOf i + 9 ≡ startOf (suc i) = omega arith in
       let (each, last, others) = body-back es (suc i) (h .1) (ap (λ (k : ℕ). drop k s) (sym next) ∙ rest) in
-      let here : entryAt s i ≡ x = ap entryIn got in
+      let here : entryAt s i ≡ x = ap (λ (r : FieldRead). entryIn (dueIn 18 r)) got in
       let n : suc i + length es ≡ i + suc (length es) = omega arith in
       let sound : entryJudged s i ≡ Sound = rw (got, h .0) in
       (rw sound each, rw n at last, ap (λ (r : List Entry). entryAt s i ∷ r) others ∙ ap (λ (y : Entry). y ∷ es) here)
@@ -218,7 +219,7 @@ unfolding placementOf fileJudged bodyJudged countJudged owed placementBytes
 bytes-file es p =
     let s = placementBytes es in
     let (got, rest) = got-at s 0 (Count (length es)) (entriesBytes es) (omega (arith, p .few), tt) refl in
-    let n : owed s ≡ length es = ap countIn got in
+    let n : owed s ≡ length es = ap (λ (r : FieldRead). countIn (dueIn 17 r)) got in
     let (each, last, all) = body-back s es 0 (p .ranged) rest in
     let few : leb (length es) mostEntries ≡ true = le-leb (length es) mostEntries (p .few) in
     let z : 0 + length es ≡ length es = omega arith in
