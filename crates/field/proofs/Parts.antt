@@ -29,3 +29,16 @@ part-back l vs at h =
     ∙ ap (λ (r : List ℕ). take at l ++ r) (append-nil (sets (drop at l) 0 vs))
     ∙ sets-drop at l 0 vs h
     ∙ ap (λ (k : ℕ). sets l k vs) (add-zero at)
+
+-- the part of a buffer from a place on
+abbrev Part : List ℕ → ℕ → List ℕ
+Part out at = take (length out - at) (drop at out)
+
+part-long : (out : List ℕ) (at : ℕ) → length (Part out at) ≡ length out - at
+part-long out at = ap length (take-all (length out - at) (drop at out) (rw length-drop (omega arith))) ∙ length-drop at out
+
+pub part-room : (out : List ℕ) (at m : ℕ) → at + m ≤ length out → m ≤ length (Part out at)
+part-room out at m h = omega (arith, part-long out at)
+
+pub put-back : (out vs : List ℕ) (at : ℕ) {part : List ℕ} → at + length vs ≤ length out → part ≡ sets (Part out at) 0 vs → take at out ++ (part ++ drop (length out - at) (drop at out)) ≡ sets out at vs
+put-back out vs at h e = ap (λ (p : List ℕ). take at out ++ (p ++ drop (length out - at) (drop at out))) e ∙ part-back out vs at (omega arith)

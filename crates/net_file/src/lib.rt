@@ -8,14 +8,13 @@ ghost use lib.Seq.{sets};
 ghost use Rattle.net.specs.Net.{netAt, node};
 ghost use Rattle.net.specs.Judge.{unless, thenJudge, childedBy};
 ghost use Rattle.net.specs.Counted.{unlimited, Within, Level};
-ghost use Rattle.field.specs.Format.{cutAt, dueAt, bytesOf};
+ghost use Rattle.field.specs.Format.{cutAt, dueAt};
 ghost use Rattle.net_file.specs.NetFile.{frontValue, frontOf, nodeDue, takenValue, takenAt, netFrom, netOf, columnsOf, laidOver, ReadNet, fieldOf, netBytes, WroteNet};
 ghost use Rattle.net_file.specs.Own.{blank, listed, Room, JudgedFile};
 use field::DueRead;
 use field::Field;
 use field::FieldRead;
 use field::Value;
-use field::Wrote;
 use net::Judged;
 use net::Limits;
 use net::Node;
@@ -364,18 +363,6 @@ fn net_size(parent: &[u16], wire: &[u32], kind: &[u8], pin: &[u32], polarity: &[
     size
 }
 
-// A field at the front of what is lent, which has room for it.
-fn put_field(out: &mut [u8], v: Value) -> usize
-    requires { ⌜ length (bytesOf v) ≤ length (now out) ⌝ }
-    ensures { λ r. ⌜ (r ≡ length (bytesOf v)) × (now (out .exit) ≡ sets (now (out .entry)) 0 (bytesOf v)) ⌝ }
-{
-    let wrote = field::write_field(out, v);
-    let Wrote::Bytes(size) = wrote else {
-        return 0;
-    };
-    size
-}
-
 // Each field goes into the part of the buffer that begins where the last one ended.
 fn put_fields(
     l: Limits,
@@ -389,14 +376,14 @@ fn put_fields(
     requires { ⌜ Level (netAt unlimited parent wire kind pin polarity) × (length (netBytes (netAt l parent wire kind pin polarity)) ≤ length (now out)) ⌝ }
     ensures { λ _. ⌜ now (out .exit) ≡ sets (now (out .entry)) 0 (netBytes (netAt l (parent .entry) (wire .entry) (kind .entry) (pin .entry) (polarity .entry))) ⌝ }
 {
-    let mut at = put_field(out, Value::Limits(l));
+    let mut at = field::put_field(out, Value::Limits(l));
     let mut i: usize = 1;
     while i < parent.len() {
         let d = net::node_at(parent, wire, kind, pin, polarity, i);
-        at += put_field(&mut out[at..], value_of(d));
+        at += field::put_field(&mut out[at..], value_of(d));
         i += 1;
     }
-    put_field(&mut out[at..], Value::End);
+    field::put_field(&mut out[at..], Value::End);
 }
 
 // Writes a net's file: judges the net, then the room, and then fills the buffer.

@@ -6,7 +6,6 @@ ghost use lib.ListN.{length};
 ghost use lib.Seq.{sets};
 ghost use Rattle.net.specs.Judge.{unless as orRefused, thenJudge};
 ghost use Rattle.net.specs.Load.{entries};
-ghost use Rattle.field.specs.Format.{bytesOf};
 ghost use Rattle.placement_file.specs.File.{due, countIn, entryIn, entryInRange, owed, countJudged, entryAt, entryJudged, endJudged, bodyJudged, fileJudged, wire, offset, listed, placementOf, columnEntry, rangesJudged, columnsJudged, columnsOf, ReadAs, placementBytes, WroteAs};
 use field::DueRead;
 use field::Value;
@@ -219,29 +218,20 @@ fn judge_columns(wires: &[u16], offsets: &[u32]) -> Judged
     judge_ranges(wires, offsets)
 }
 
-// Writes a field where the last one ended, and answers where it ends itself.
-fn put(out: &mut [u8], at: usize, v: Value) -> usize
-    requires { ⌜ at + length (bytesOf v) ≤ length (now out) ⌝ }
-    ensures { λ r. ⌜ (r ≡ at + length (bytesOf v)) × (now (out .exit) ≡ sets (now (out .entry)) at (bytesOf v)) ⌝ }
-{
-    field::write_field(&mut out[at..], v);
-    at + field::size(v)
-}
-
-// Writes the count, the entries and the end.
+// Writes the count, the entries and the end, each into the part of the buffer that begins where the last one ended.
 fn write_fields(wires: &[u16], offsets: &[u32], out: &mut [u8])
     requires { ⌜ (length (now offsets) ≡ length (now wires)) × (length (now wires) ≤ 4096) × (8 + 9 * length (now wires) ≤ length (now out)) ⌝ }
     ensures { λ _. ⌜ now (out .exit) ≡ sets (now (out .entry)) 0 (placementBytes (entries (now (wires .entry)) (now (offsets .entry)))) ⌝ }
 {
     let n = wires.len();
-    let mut at = put(out, 0, Value::Count(n as u16));
+    let mut at = field::put_field(out, Value::Count(n as u16));
     let mut i: usize = 0;
     while i < n {
         let e = column_entry(wires, offsets, i);
-        at = put(out, at, Value::Entry(e));
+        at += field::put_field(&mut out[at..], Value::Entry(e));
         i += 1;
     }
-    put(out, at, Value::End);
+    field::put_field(&mut out[at..], Value::End);
 }
 
 // Writes the file of a placement. The columns are judged, and the room, before anything is written.

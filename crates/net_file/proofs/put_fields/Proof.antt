@@ -10,8 +10,9 @@ use Rattle.net.specs.Net.{net, netAt, node}
 use Rattle.net.specs.Counted.{unlimited}
 use Rattle.field.specs.declared.Value.the-variants.{End}
 use Rattle.field.specs.Format.{bytesOf}
+use Rattle.field.proofs.Parts.{part-room, put-back}
 use Rattle.net_file.specs.NetFile.{fieldOf}
-use Rattle.net_file.proofs.Writing.{Left, Putting, put-start, room-next, put-next, room-end, put-end, put-all, put-back, part-room}
+use Rattle.net_file.proofs.Writing.{Left, Putting, put-start, room-next, put-next, room-end, put-end, put-all}
 use Rattle.net_file.proofs.put_fields.Statement.{statement}
 use Rattle.net_file.proofs.put_fields.Tie as tie
 

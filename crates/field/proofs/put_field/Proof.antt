@@ -1,10 +1,10 @@
 -- `put_field` has room, so the field writer's answer is the count.
 use denote.Ref.{now}
 use borrow.Author.Needs.{needs}
 use Rattle.field.specs.Format.{bytesOf}
-use Rattle.net_file.proofs.Writing.{put-count, put-never}
-use Rattle.net_file.proofs.put_field.Statement.{statement}
-use Rattle.net_file.proofs.put_field.Tie as tie
+use Rattle.field.proofs.Writing.{put-count, put-never}
+use Rattle.field.proofs.put_field.Statement.{statement}
+use Rattle.field.proofs.put_field.Tie as tie
 
 pub put-field-spec : {M : Type 1} → statement M
 put-field-spec =
