@@ -1,5 +1,5 @@
 -- What stands where one tag is due, by the byte that stands there: a field that was got or cut has the tag of its first byte.
-use Prim.Native.Nat.{ℕ, _+_, _<_, _≤_}
+use Prim.Native.Nat.{ℕ, _+_, _≤_}
 use native.Mathlib.Omega.{arith}
 use mathlib.Core.Path.{_≡_, refl, ap, _∙_}
 use mathlib.Core.List.{List}
@@ -8,15 +8,18 @@ use lib.ListN.{length, getD}
 use lib.Dec.{ltb, eqb}
 use borrow.Author.Tests.{eqb-true, eq-eqb, ne-eqb, le-ltb}
 use Rattle.net.specs.declared.Refusal.the-variants.{FileEnds, NotDue}
+use Rattle.net.specs.Refusal.{placeOf}
 use Rattle.net.specs.Choose.{pick}
+use Rattle.net.proofs.Tests.{never}
 use Rattle.field.specs.declared.Value.{Value}
 use Rattle.field.specs.declared.Field.{Field}
 use Rattle.field.specs.declared.FieldRead.{FieldRead}
 use Rattle.field.specs.declared.FieldRead.the-variants.{Got, Cut, Refused}
 use Rattle.field.specs.declared.DueRead.{DueRead}
 use Rattle.field.specs.declared.DueRead.the-variants.{Got as Found, Refused as Missing}
-use Rattle.field.specs.Format.{numberAt, lengthOf, tagOf, valueIn, fieldIn, dueIn}
+use Rattle.field.specs.Format.{numberAt, lengthOf, tagOf, valueIn, fieldIn, fieldAt, cutAt, dueIn, dueAt, readPlace, duePlace}
 use Rattle.field.proofs.Numbers.{AreBytes}
+use Rattle.field.proofs.Reading.{read-place}
 use Rattle.field.proofs.RoundTrip.{kept}
 
 -- what is found where the tag that stands there is the one that is due
@@ -55,6 +58,23 @@ found tag (Got g) {f} e = by (eqb (tagOf (g .value)) tag) refl e
   where
     by : (b : Bool) → eqb (tagOf (g .value)) tag ≡ b → pick b (Found g) (Missing (NotDue (g .at))) ≡ Found f → (Got g ≡ Got f) × (tagOf (f .value) ≡ tag)
     by true t h = let same : g ≡ f = cc in (ap Got same, rw same at (eqb-true (tagOf (g .value)) tag t))
-    by false t h = let z : _≡_ {A = ℕ} 0 1 = cc in absurd (omega arith)
-found tag (Cut t place) e = let z : _≡_ {A = ℕ} 0 1 = cc in absurd (omega arith)
-found tag (Refused r) e = let z : _≡_ {A = ℕ} 0 1 = cc in absurd (omega arith)
+    by false t h = never (cc)
+found tag (Cut t place) e = never (cc)
+found tag (Refused r) e = never (cc)
+
+-- "Place: byte of that field's start", here too
+pub due-place : (tag : ℕ) (s : List ℕ) (at : ℕ) → duePlace (dueAt tag s at) ≡ at
+due-place tag s at = of (fieldAt s at) ∙ read-place s at
+  where
+    of-got : (b : Bool) (f : Field) → duePlace (pick b (Found f) (Missing (NotDue (f .at)))) ≡ f .at
+    of-got true f = refl
+    of-got false f = refl
+
+    of-cut : (b : Bool) (place : ℕ) → placeOf (cutAt b place) ≡ place
+    of-cut true place = refl
+    of-cut false place = refl
+
+    of : (r : FieldRead) → duePlace (dueIn tag r) ≡ readPlace r
+    of (Got f) = of-got (eqb (tagOf (f .value)) tag) f
+    of (Cut t place) = of-cut (eqb t tag) place
+    of (Refused r) = refl

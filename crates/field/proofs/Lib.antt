@@ -6,3 +6,4 @@ pub mod RoundTrip
 pub mod Due
 pub mod Determined
 pub mod Example
+pub mod Listing

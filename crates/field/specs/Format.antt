@@ -163,6 +163,14 @@ readPlace (Got f) = f .at
 readPlace (Cut t place) = place
 readPlace (Refused r) = placeOf r
 
+abbrev pub dueNumber : DueRead → ℕ
+dueNumber (Found f) = 0
+dueNumber (Missing r) = numberOf r
+
+abbrev pub duePlace : DueRead → ℕ
+duePlace (Found f) = f .at
+duePlace (Missing r) = placeOf r
+
 -- 0 and the bytes written, or 9 and the bytes needed
 abbrev pub wroteNumber : Wrote → ℕ
 wroteNumber (Bytes n) = 0

@@ -310,15 +310,3 @@ pub fn write_field(out: &mut [u8], v: Value) -> Wrote
     put(out, v);
     Wrote::Bytes(n)
 }
-
-// Writes a field at the front of what is lent, which has room for it, and answers the bytes that it took.
-pub fn put_field(out: &mut [u8], v: Value) -> usize
-    requires { ⌜ length (bytesOf v) ≤ length (now out) ⌝ }
-    ensures { λ r. ⌜ (r ≡ length (bytesOf v)) × (now (out .exit) ≡ sets (now (out .entry)) 0 (bytesOf v)) ⌝ }
-{
-    let wrote = write_field(out, v);
-    let Wrote::Bytes(size) = wrote else {
-        return 0;
-    };
-    size
-}

@@ -5,8 +5,8 @@ use native.Mathlib.Omega.{arith}
 use mathlib.Core.Path.{_≡_, refl, sym, ap, _∙_}
 use mathlib.Core.Bool.{Bool, true, false}
 use mathlib.Core.List.{List, [], _∷_, _++_, map}
-use lib.ListN.{length, getD, take, drop, length-map, take-append-drop, drop-of-length-le}
-use lib.Seq.{sets, sets-eq, drop-drop, take-append-seam}
+use lib.ListN.{length, getD, take, drop, length-map, drop-of-length-le}
+use lib.Seq.{sets, sets-eq, take-append-seam}
 use lib.Dec.{ltb, leb}
 use borrow.Author.Tests.{eq-eqb, lt-ltb, le-ltb, le-leb, leb-true, ltb-false}
 use Rattle.net.specs.declared.Limits.{Limits}
@@ -29,7 +29,7 @@ use Rattle.field.specs.declared.DueRead.the-variants.{Got as Due, Refused as No
 use Rattle.field.specs.Format.{fieldAt, dueAt, bytesOf}
 use Rattle.field.proofs.Due.{found}
 use Rattle.field.proofs.Numbers.{AreBytes}
-use Rattle.field.proofs.RoundTrip.{Stands, written-read}
+use Rattle.field.proofs.RoundTrip.{written-read, begins}
 use Rattle.net_file.specs.declared.Front.the-variants.{Limits as Found, Refused as NotFound}
 use Rattle.net_file.specs.declared.Taken.{Taken}
 use Rattle.net_file.specs.declared.Taken.the-variants.{Node as OneNode, End as Last, Refused as Neither}
@@ -89,13 +89,6 @@ end-field next (NoField r) e = never (cc)
 
 -- ---- a file's bytes
 module _ (s : List ℕ) (by : AreBytes s) where
-  -- the file from a place on begins with the bytes of the field there
-  split : (at : ℕ) (f : Field) (v : Value) → fieldAt s at ≡ Got f → f .value ≡ v → (bytesOf v ++ drop (at + length (bytesOf v)) s ≡ drop at s) × (f .at ≡ at)
-  split at f v e q =
-      let w : Stands s at f = written-read s at f by e in
-      let t : take (length (bytesOf v)) (drop at s) ≡ bytesOf v = rw q at (w .bytes) in
-      (ap (λ (x : List ℕ). x ++ drop (at + length (bytesOf v)) s) (sym t) ∙ rw (← drop-drop (length (bytesOf v)) at s) (take-append-drop (length (bytesOf v)) (drop at s)), w .place)
-
   module _ (l : Limits) (ds : List Node) where
     abbrev N : Net
     N = columnsOf l ds
@@ -104,20 +97,18 @@ module _ (s : List ℕ) (by : AreBytes s) where
     unfolding takenAt bytesFrom
     node-bytes at i d next k e h later =
         let (f, got, v, n) = node-field d next (fieldAt s at) e in
-        let (here, place) = split at f (fieldOf d) got v in
-        let next-is : next ≡ at + length (bytesOf (fieldOf d)) = n ∙ rw (place, v) in
+        let next-is : next ≡ at + length (bytesOf (fieldOf d)) = n ∙ rw (written-read s at f by got .place, v) in
         ap (λ (x : Node). bytesOf (fieldOf x) ++ bytesFrom (node N) k (suc i)) (node-is l ds i ∙ h)
         ∙ ap (λ (x : List ℕ). bytesOf (fieldOf d) ++ x) (later ∙ ap (λ (x : ℕ). drop x s) next-is)
-        ∙ here
+        ∙ sym (begins s by at f (fieldOf d) got v)
 
     end-bytes : (at next : ℕ) → takenAt s at ≡ Last next → length s ≤ next → bytesOf End ≡ drop at s
     unfolding takenAt
     end-bytes at next e h =
         let (f, got, v, n) = end-field next (fieldAt s at) e in
-        let (here, place) = split at f End got v in
-        let next-is : next ≡ at + 3 = n ∙ rw (place, v) in
+        let next-is : next ≡ at + 3 = n ∙ rw (written-read s at f by got .place, v) in
         let none : drop (at + 3) s ≡ [] = drop-of-length-le s {i = at + 3} (omega arith) in
-        rw none at here
+        sym (rw none at (begins s by at f End got v))
 
     bytes-back : (k at i : ℕ) → fieldsJudged N (length s) i (fieldsFrom k s at) ≡ Sound → drop i ds ≡ nodesOf (fieldsFrom k s at) → bytesFrom (node N) (length (nodesOf (fieldsFrom k s at))) i ≡ drop at s
     unfolding fieldsFrom fieldsJudged nodesOf bytesFrom
@@ -159,7 +150,7 @@ unfolding judged
 same-bytes s n by e =
     let w : WasRead s n = was-read s n e in
     let (f, due, v, r) = front-field (n .limits) (dueAt 1 s 0) (w .front) in
-    let (front, place) = split s by 0 f (LimitsField (n .limits)) (found 1 (fieldAt s 0) due .0) v in
+    let front = sym (begins s by 0 f (LimitsField (n .limits)) (found 1 (fieldAt s 0) due .0) v) in
     let m : places n ≡ suc (length (nodesOf (fieldsOf s))) = ap places (w .is) ∙ places-are (n .limits) (source ∷ nodesOf (fieldsOf s)) in
     let k : places n - 1 ≡ length (nodesOf (fieldsOf s)) = omega arith in
     let (nodes, c) = columns-judged n (length s) 1 (fieldsOf s) (w .sound) in

@@ -22,7 +22,8 @@ use Rattle.net_file.specs.declared.Front.the-variants.{Limits as Found, 
 use Rattle.net_file.specs.declared.NetRead.{NetRead}
 use Rattle.net_file.specs.declared.NetRead.the-variants.{Read, Refused as NotRead}
 use Rattle.net_file.specs.NetFile.{frontOf, nodesOf, columnsOf, source, fieldsJudged, Outcome, read, refused, whenSound, netWith, fieldsOf, netFrom, fromFront, netOf, room, laidOver, answered, filled, ReadNet}
-use Rattle.net_file.specs.Own.{tells, listed, blank, JudgedFile}
+use Rattle.field.specs.Listed.{listed}
+use Rattle.net_file.specs.Own.{tells, blank, JudgedFile}
 use Rattle.net_file.proofs.Nodes.{node-is, places-are}
 use Rattle.net_file.proofs.Judging.{columns-judged, few-nodes}
 use Rattle.net_file.proofs.Filling.{laidFrom}

@@ -9,8 +9,9 @@ ghost use Rattle.net.specs.Net.{netAt, node};
 ghost use Rattle.net.specs.Judge.{unless, thenJudge, childedBy};
 ghost use Rattle.net.specs.Counted.{unlimited, Within, Level};
 ghost use Rattle.field.specs.Format.{cutAt, dueAt};
+ghost use Rattle.field.specs.Listed.{listed};
 ghost use Rattle.net_file.specs.NetFile.{frontValue, frontOf, nodeDue, takenValue, takenAt, netFrom, netOf, columnsOf, laidOver, ReadNet, fieldOf, netBytes, WroteNet};
-ghost use Rattle.net_file.specs.Own.{blank, listed, Room, JudgedFile};
+ghost use Rattle.net_file.specs.Own.{blank, Room, JudgedFile};
 use field::DueRead;
 use field::Field;
 use field::FieldRead;
@@ -376,14 +377,17 @@ fn put_fields(
     requires { ⌜ Level (netAt unlimited parent wire kind pin polarity) × (length (netBytes (netAt l parent wire kind pin polarity)) ≤ length (now out)) ⌝ }
     ensures { λ _. ⌜ now (out .exit) ≡ sets (now (out .entry)) 0 (netBytes (netAt l (parent .entry) (wire .entry) (kind .entry) (pin .entry) (polarity .entry))) ⌝ }
 {
-    let mut at = field::put_field(out, Value::Limits(l));
+    field::write_field(out, Value::Limits(l));
+    let mut at: usize = 12;
     let mut i: usize = 1;
     while i < parent.len() {
         let d = net::node_at(parent, wire, kind, pin, polarity, i);
-        at += field::put_field(&mut out[at..], value_of(d));
+        let v = value_of(d);
+        field::write_field(&mut out[at..], v);
+        at += field::size(v);
         i += 1;
     }
-    field::put_field(&mut out[at..], Value::End);
+    field::write_field(&mut out[at..], Value::End);
 }
 
 // Writes a net's file: judges the net, then the room, and then fills the buffer.

@@ -16,9 +16,11 @@ use Rattle.field.specs.declared.Value.the-variants.{Count, Entry as AnEntry, En
 use Rattle.field.proofs.Numbers.{sets-append}
 use Rattle.field.specs.declared.Wrote.the-variants.{Bytes, Refused as NotWritten}
 use Rattle.field.proofs.Writing.{too-little, enough}
-use Rattle.placement_file.specs.File.{listed, columnEntry, columnsJudged, columnsOf, entriesBytes, placementBytes, WroteAs}
+use Rattle.field.specs.Listed.{listed}
+use Rattle.placement_file.specs.File.{columnEntry, columnsJudged, columnsOf, entriesBytes, placementBytes, WroteAs}
 use Rattle.placement_file.proofs.Judging.{fits, sound-columns}
-use Rattle.placement_file.proofs.Listing.{listed-next, listed-end, entries-listed, length-entries}
+use Rattle.field.proofs.Listing.{listed-next, listed-end}
+use Rattle.placement_file.proofs.Listing.{entries-listed, length-entries}
 
 length-body : (es : List Entry) → length (entriesBytes es) ≡ 3 + 9 * length es
 unfolding entriesBytes

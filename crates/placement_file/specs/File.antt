@@ -1,5 +1,5 @@
 -- Document 01, "Files": what a placement file says, what two columns say, and what the reader and the writer answer and leave.
-use Prim.Native.Nat.{ℕ, zero, suc, _+_, _*_, min}
+use Prim.Native.Nat.{ℕ, _+_, _*_, min}
 use mathlib.Core.Path.{_≡_}
 use mathlib.Core.List.{List, [], _∷_, _++_, map}
 use mathlib.Core.Bool.{Bool}
@@ -17,6 +17,7 @@ use Rattle.net.specs.declared.Refusal.{Refusal}
 use Rattle.net.specs.declared.Refusal.the-variants.{OutOfRange, BytesAfterEnd, WrongColumns, NoRoom}
 use Rattle.net.specs.declared.Judged.{Judged}
 use Rattle.net.specs.declared.Judged.the-variants.{Sound, Refused as Unsound}
+use Rattle.field.specs.Listed.{listed}
 use Rattle.field.specs.Format.{tagOf, numbersOf, dueAt, bytesOf, wrote, laid}
 use Rattle.field.specs.declared.Value.the-variants.{Count, Entry as AnEntry, End}
 use Rattle.field.specs.declared.DueRead.{DueRead}
@@ -84,11 +85,6 @@ wire e = e .wire
 
 abbrev pub offset : Entry → ℕ
 offset e = e .offset
-
--- k entries, from entry i on
-unfoldable pub listed : (ℕ → Entry) → ℕ → ℕ → List Entry
-listed f zero i = []
-listed f (suc k) i = f i ∷ listed f k (suc i)
 
 -- ---- what a file says, and what two columns say: the entries or the first refusal
 

@@ -6,7 +6,8 @@ ghost use lib.ListN.{length};
 ghost use lib.Seq.{sets};
 ghost use Rattle.net.specs.Judge.{unless as orRefused, thenJudge};
 ghost use Rattle.net.specs.Load.{entries};
-ghost use Rattle.placement_file.specs.File.{due, countIn, entryIn, entryInRange, owed, countJudged, entryAt, entryJudged, endJudged, bodyJudged, fileJudged, wire, offset, listed, placementOf, columnEntry, rangesJudged, columnsJudged, columnsOf, ReadAs, placementBytes, WroteAs};
+ghost use Rattle.field.specs.Listed.{listed};
+ghost use Rattle.placement_file.specs.File.{due, countIn, entryIn, entryInRange, owed, countJudged, entryAt, entryJudged, endJudged, bodyJudged, fileJudged, wire, offset, placementOf, columnEntry, rangesJudged, columnsJudged, columnsOf, ReadAs, placementBytes, WroteAs};
 use field::DueRead;
 use field::Value;
 use field::Wrote;
@@ -224,14 +225,16 @@ fn write_fields(wires: &[u16], offsets: &[u32], out: &mut [u8])
     ensures { λ _. ⌜ now (out .exit) ≡ sets (now (out .entry)) 0 (placementBytes (entries (now (wires .entry)) (now (offsets .entry)))) ⌝ }
 {
     let n = wires.len();
-    let mut at = field::put_field(out, Value::Count(n as u16));
+    field::write_field(out, Value::Count(n as u16));
+    let mut at: usize = 5;
     let mut i: usize = 0;
     while i < n {
         let e = column_entry(wires, offsets, i);
-        at += field::put_field(&mut out[at..], Value::Entry(e));
+        field::write_field(&mut out[at..], Value::Entry(e));
+        at += 9;
         i += 1;
     }
-    field::put_field(&mut out[at..], Value::End);
+    field::write_field(&mut out[at..], Value::End);
 }
 
 // Writes the file of a placement. The columns are judged, and the room, before anything is written.

@@ -1,12 +1,15 @@
 -- `write_fields` lays the count, each entry and the end, each in the part that begins where the last one ended.
-use Prim.Native.Nat.{ℕ, _+_, _-_}
-use mathlib.Core.Path.{ap, _∙_}
+use Prim.Native.Nat.{_-_}
+use denote.Ref.{now}
+use mathlib.Core.Path.{refl, ap, _∙_}
 use lib.ListN.{length}
 use lib.Seq.{length-sets}
 use native.Mathlib.Omega.{arith}
-use Rattle.field.specs.declared.Value.the-variants.{Entry, End}
+use borrow.Author.Needs.{needs}
+use Rattle.field.specs.declared.Value.the-variants.{Count, Entry, End}
 use Rattle.field.specs.Format.{bytesOf}
-use Rattle.field.proofs.Parts.{part-room, put-back}
+use Rattle.field.proofs.Parts.{put-back}
+use Rattle.field.proofs.Writing.{laid-whole}
 use Rattle.placement_file.proofs.Writing.{Putting, putting-start, putting-next, putting-end}
 use Rattle.placement_file.proofs.write_fields.Statement.{statement}
 use Rattle.placement_file.proofs.write_fields.Tie as tie
@@ -17,9 +20,6 @@ Inv-loop wires offsets out₀ n at₀ i₀ out at i = Putting wires offsets out�
 abbrev μ-loop : tie.MeasureT-loop
 μ-loop wires offsets out₀ n at₀ i₀ out at i = n - i
 
-put-field-requires-2 : tie.Need-put-field-requires-2 Inv-loop μ-loop
-put-field-requires-2 c κs = let l = c .before .before .before .loop in part-room (l .out) (l .at) 9 (omega (arith, l .inv .place, l .inv .kept))
-
 loop-again : tie.Need-loop-again Inv-loop μ-loop
 loop-again c =
     let p = c .before .before in
@@ -28,10 +28,7 @@ loop-again c =
     let l = t .before .loop in
     let first = t .before .before .before .before in
     putting-next (l .inv) (t .loop-test .taken) (e .column-entry .ensures)
-    (ap (λ (n : ℕ). l .at + n) (p .put-field2 .ensures .0), put-back (l .out) (bytesOf (Entry (e .column-entry .result))) (l .at) (omega (arith, l .inv .place, l .inv .kept, first .put-field .kept .0, t .loop-test .taken)) (p .put-field2 .ensures .1))
-
-put-field-requires-3 : tie.Need-put-field-requires-3 Inv-loop μ-loop
-put-field-requires-3 c κs = let l = c .before .before .loop in part-room (l .out) (l .at) 3 (omega (arith, l .inv .place, l .inv .kept, l .inv .high))
+    (refl, put-back (l .out) (bytesOf (Entry (e .column-entry .result))) (l .at) (omega (arith, l .inv .place, l .inv .kept, first .write-field .kept .0, t .loop-test .taken)) (p .write-field2 .ensures .1))
 
 returns : tie.Need-returns Inv-loop μ-loop
 returns c =
@@ -39,8 +36,11 @@ returns c =
     let t = p .before .before in
     let l = t .before .loop in
     let first = t .before .before .before .before in
-    putting-end (l .inv) (first .before .before .before .before .before .pre .0) (t .loop-test .left) _ (first .put-field .ensures .1)
-    (put-back (l .out) (bytesOf End) (l .at) (omega (arith, l .inv .place, l .inv .kept, l .inv .high)) (p .put-field3 .ensures .1))
+    let s = first .before .before .before .before .before in
+    let a = s .args in
+    putting-end (l .inv) (s .pre .0) (t .loop-test .left) (now (a .out))
+    (first .write-field .ensures .1 ∙ laid-whole (bytesOf (Count (length (now (a .wires))))) (now (a .out)) (omega (arith, s .pre .2)))
+    (put-back (l .out) (bytesOf End) (l .at) (omega (arith, l .inv .place, l .inv .kept, l .inv .high)) (p .write-field3 .ensures .1))
 
 pub write-fields-spec : {M : Type 1} → statement M
 write-fields-spec =
@@ -49,13 +49,13 @@ write-fields-spec =
     Inv-loop
     μ-loop
     (λ c. omega arith)
+    (λ c κs. search needs)
+    (λ c. putting-start (c .before .before .before .before .before .before .before .pre .0) refl)
     (λ c κs. omega arith)
-    (λ c. let p = c .before .before in putting-start (p .before .before .before .before .before .pre .0) (p .put-field .ensures .0))
-    (λ c κs. omega arith)
     (λ c. omega arith)
     (λ c. omega arith)
     (λ c. omega arith)
-    put-field-requires-2
+    (λ c κs. search needs)
     (λ c. omega arith)
     (λ c. omega arith)
     (λ c. omega arith)
@@ -63,6 +63,6 @@ write-fields-spec =
     (λ c. omega arith)
     (λ c. omega arith)
     (λ c. omega arith)
-    put-field-requires-3
+    (λ c κs. search needs)
     (λ c. ap length (returns c) ∙ simp length-sets)
     returns)
