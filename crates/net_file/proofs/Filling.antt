@@ -77,9 +77,9 @@ module _ (s : List ℕ) (places : ℕ) (lent : Net) where
     }
 
     -- the end: all nodes are laid
-    pub fill-last : i < places → {next : ℕ} → takenAt s at ≡ Last next → now ≡ laidFrom lent 1 (places - 1) s 12
+    pub fill-last : i < places → takenAt s at ≡ Last → now ≡ laidFrom lent 1 (places - 1) s 12
     unfolding nodesOf
-    fill-last h {next} e = sym (step h (Last next) e)
+    fill-last h e = sym (step h Last e)
 
 -- ---- a copy of the first n places
 module _ (nodes : ℕ → Node) (n : ℕ) (lent : Net) where

@@ -65,13 +65,13 @@ node-value at d next (Count n) e = never (cc)
 node-value at d next (Entry x) e = never (cc)
 node-value at d next End e = never (cc)
 
-end-value : (at next : ℕ) (v : Value) → takenValue at v ≡ Last next → (v ≡ End) × (next ≡ at + length (bytesOf v))
-end-value at next End e = (refl, cc)
-end-value at next (LimitsField l) e = never (cc)
-end-value at next (Branch p w) e = never (cc)
-end-value at next (Sink p w c q) e = never (cc)
-end-value at next (Count n) e = never (cc)
-end-value at next (Entry x) e = never (cc)
+end-value : (at : ℕ) (v : Value) → takenValue at v ≡ Last → v ≡ End
+end-value at End e = refl
+end-value at (LimitsField l) e = never (cc)
+end-value at (Branch p w) e = never (cc)
+end-value at (Sink p w c q) e = never (cc)
+end-value at (Count n) e = never (cc)
+end-value at (Entry x) e = never (cc)
 
 front-field : (l : Limits) (d : DueRead) → frontOf d ≡ Found l → (f : Field) × (d ≡ Due f) × (f .value ≡ LimitsField l) × (limitsInRange l ≡ true)
 front-field l (Due f) e = let (v, r) = front-value (f .at) l (f .value) e in (f, refl, v, r)
@@ -82,13 +82,20 @@ node-field d next (Got f) e = let (v, n) = node-value (f .at) d next (f .value) 
 node-field d next (Cut t place) e = never (cc)
 node-field d next (NoField r) e = never (cc)
 
-end-field : (next : ℕ) (g : FieldRead) → takenOf g ≡ Last next → (f : Field) × (g ≡ Got f) × (f .value ≡ End) × (next ≡ f .at + length (bytesOf (f .value)))
-end-field next (Got f) e = let (v, n) = end-value (f .at) next (f .value) e in (f, refl, v, n)
-end-field next (Cut t place) e = never (cc)
-end-field next (NoField r) e = never (cc)
+end-field : (g : FieldRead) → takenOf g ≡ Last → (f : Field) × (g ≡ Got f) × (f .value ≡ End)
+end-field (Got f) e = (f, refl, end-value (f .at) (f .value) e)
+end-field (Cut t place) e = never (cc)
+end-field (NoField r) e = never (cc)
 
 -- ---- a file's bytes
 module _ (s : List ℕ) (by : AreBytes s) where
+  -- an end that was read lies inside the file
+  pub end-inside : (at : ℕ) → takenAt s at ≡ Last → at + 3 ≤ length s
+  unfolding takenAt
+  end-inside at e =
+      let (f, got, v) = end-field (fieldAt s at) e in
+      omega (arith, written-read s at f by got .inside, ap (λ (x : Value). length (bytesOf x)) v)
+
   module _ (l : Limits) (ds : List Node) where
     abbrev N : Net
     N = columnsOf l ds
@@ -102,11 +109,10 @@ module _ (s : List ℕ) (by : AreBytes s) where
         ∙ ap (λ (x : List ℕ). bytesOf (fieldOf d) ++ x) (later ∙ ap (λ (x : ℕ). drop x s) next-is)
         ∙ sym (begins s by at f (fieldOf d) got v)
 
-    end-bytes : (at next : ℕ) → takenAt s at ≡ Last next → length s ≤ next → bytesOf End ≡ drop at s
+    end-bytes : (at : ℕ) → takenAt s at ≡ Last → length s ≤ at + 3 → bytesOf End ≡ drop at s
     unfolding takenAt
-    end-bytes at next e h =
-        let (f, got, v, n) = end-field next (fieldAt s at) e in
-        let next-is : next ≡ at + 3 = n ∙ rw (written-read s at f by got .place, v) in
+    end-bytes at e h =
+        let (f, got, v) = end-field (fieldAt s at) e in
         let none : drop (at + 3) s ≡ [] = drop-of-length-le s {i = at + 3} (omega arith) in
         sym (rw none at (begins s by at f End got v))
 
@@ -121,8 +127,8 @@ module _ (s : List ℕ) (by : AreBytes s) where
         on (OneNode d next) q j left later =
             let head : Heads ds i d (nodesOf (fieldsFrom k s next)) = heads i left in
             node-bytes at i d next (length (nodesOf (fieldsFrom k s next))) q (head .first) (later next (then-met (nodeJudged N i at) _ j .1) (head .others))
-        on (Last next) q j left later =
-            end-bytes at next q (leb-true (length s) next (unless-met _ (BytesAfterEnd next) (then-met (unless (leb (length s) next) (BytesAfterEnd next)) _ j .0)))
+        on Last q j left later =
+            end-bytes at q (leb-true (length s) (at + 3) (unless-met _ (BytesAfterEnd (at + 3)) (then-met (unless (leb (length s) (at + 3)) (BytesAfterEnd (at + 3))) _ j .0)))
         on (Neither r) q j left later = never (cc)
 
 -- ---- the columns of a list of nodes

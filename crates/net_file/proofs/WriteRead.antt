@@ -108,7 +108,7 @@ module _ (n : Net) (holds : judged n ≡ Sound) where
         let fit : Fitting (fieldOf (node n i)) = fitting (node n i) (omega (arith, f .lower i lo hi, f .few)) (f .wire-most i) (f .pin-most i) (omega (arith, f .polarity-most i, f .repeater-most)) in
         ap takenOf (field-back s at (fieldOf (node n i)) rest fit e) ∙ taken-back at (n .limits) (node n i) (in-range i lo hi)
 
-    end-here : (at : ℕ) → drop at s ≡ bytesOf End → takenAt s at ≡ Last (at + 3)
+    end-here : (at : ℕ) → drop at s ≡ bytesOf End → takenAt s at ≡ Last
     unfolding takenAt
     end-here at e = ap takenOf (field-back s at End [] tt e)
 
@@ -121,7 +121,7 @@ module _ (n : Net) (holds : judged n ≡ Sound) where
     unfolding fieldsFrom fieldsJudged nodesOf bytesFrom listed
     back m zero at i h lo e b = absurd (omega arith)
     back zero (suc k) at i h lo e b =
-        let t : takenAt s at ≡ Last (at + 3) = end-here at b in
+        let t : takenAt s at ≡ Last = end-here at b in
         let long : length s ≤ at + 3 = omega (arith, length-drop at s, ap length b) in
         record { nodes = rw t; sound = rw (t, le-leb (length s) (at + 3) long) (met .4) }
     back (suc m) (suc k) at i h lo e b =

@@ -58,7 +58,7 @@ takenValue at (Branch p w) = OneNode (record { parent = p; wire = w; kind = 0; p
 takenValue at (Sink p w c q) = OneNode (record { parent = p; wire = w; kind = 1; pin = c; polarity = q }) (at + length (bytesOf (Sink p w c q)))
 takenValue at (Count n) = Neither (NotDue at)
 takenValue at (Entry e) = Neither (NotDue at)
-takenValue at End = Last (at + length (bytesOf End))
+takenValue at End = Last
 
 abbrev pub takenOf : FieldRead → Taken
 takenOf (Got f) = takenValue (f .at) (f .value)
@@ -78,7 +78,7 @@ pub data Fields : Type 0 where
 
 abbrev pub follow : ℕ → Taken → (ℕ → Fields) → Fields
 follow at (OneNode d next) more = nodeAt at d (more next)
-follow at (Last next) more = endAt next
+follow at Last more = endAt (at + length (bytesOf End))
 follow at (Neither r) more = wrong r
 
 -- k fields from a place on. Node 1,025 is never admitted, so 1,025 are enough

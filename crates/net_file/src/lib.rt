@@ -27,10 +27,10 @@ pub enum Front {
     Refused(Refusal),
 }
 
-// What stands at a later place: a node or the end, with the place after it, or neither.
+// What stands at a later place: a node, with the place after it, the end, or neither.
 pub enum Taken {
     Node(Node, usize),
-    End(usize),
+    End,
     Refused(Refusal),
 }
 
@@ -127,7 +127,7 @@ fn taken_of(f: Field) -> Taken
         );
     }
     if let Value::End = value {
-        return Taken::End(at + 3);
+        return Taken::End;
     }
     Taken::Refused(Refusal::NotDue(at))
 }
@@ -204,8 +204,8 @@ fn judge_fields(
                 i += 1;
                 at = next;
             }
-            Taken::End(next) => {
-                let end = finish(s, next, kind, &counts, i);
+            Taken::End => {
+                let end = finish(s, at + 3, kind, &counts, i);
                 if let Judged::Refused(r) = end {
                     return NetRead::Refused(r);
                 }
