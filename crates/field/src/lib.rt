@@ -63,7 +63,9 @@ fn read2(s: &[u8], k: usize) -> u16
     requires { ⌜ k + 2 ≤ length (now s) ⌝ }
     ensures { λ r. ⌜ r ≡ numberAt 2 (now (s .entry)) k ⌝ }
 {
-    wide(s[k]) * 256 + wide(s[k + 1])
+    let high = s[k];
+    let low = s[k + 1];
+    wide(high) * 256 + wide(low)
 }
 
 fn read4(s: &[u8], k: usize) -> u32
