@@ -6,6 +6,8 @@ use mathlib.Core.Path.{_≡_, refl, sym, ap, _∙_}
 use mathlib.Core.List.{List, [], _∷_, _++_, append-nil}
 use lib.ListN.{length, set, take, drop, length-drop, drop-of-length-le}
 use lib.Seq.{sets, take-all}
+use Rattle.field.specs.Format.{laid}
+use Rattle.field.proofs.Writing.{laid-whole}
 
 sets-cons : (x : ℕ) (xs : List ℕ) (j : ℕ) (vs : List ℕ) → sets (x ∷ xs) (suc j) vs ≡ x ∷ sets xs j vs
 sets-cons x xs j [] = refl
@@ -29,3 +31,15 @@ part-back l vs at h =
     ∙ ap (λ (r : List ℕ). take at l ++ r) (append-nil (sets (drop at l) 0 vs))
     ∙ sets-drop at l 0 vs h
     ∙ ap (λ (k : ℕ). sets l k vs) (add-zero at)
+
+-- the part of a buffer from a place on
+abbrev Part : List ℕ → ℕ → List ℕ
+Part out at = take (length out - at) (drop at out)
+
+part-long : (out : List ℕ) (at : ℕ) → length (Part out at) ≡ length out - at
+part-long out at = ap length (take-all (length out - at) (drop at out) (rw length-drop (omega arith))) ∙ length-drop at out
+
+-- a field written in that part, which has room for it
+pub put-back : (out bs : List ℕ) (at : ℕ) {part : List ℕ} → at + length bs ≤ length out → part ≡ laid bs (Part out at) → take at out ++ (part ++ drop (length out - at) (drop at out)) ≡ sets out at bs
+put-back out bs at h e =
+    ap (λ (p : List ℕ). take at out ++ (p ++ drop (length out - at) (drop at out))) (e ∙ laid-whole bs (Part out at) (omega (arith, part-long out at))) ∙ part-back out bs at (omega arith)

@@ -5,8 +5,8 @@ use native.Mathlib.Omega.{arith}
 use mathlib.Core.Path.{_≡_, refl, sym, ap, subst, _∙_}
 use mathlib.Core.List.{List, [], _∷_, _++_}
 use mathlib.Core.Bool.{Bool, true, false}
-use lib.ListN.{length, getD, take, drop, length-drop, length-append}
-use lib.Seq.{getD-drop, length-take-le}
+use lib.ListN.{length, getD, take, drop, length-drop, length-append, take-append-drop}
+use lib.Seq.{getD-drop, length-take-le, drop-drop, drop-append-seam}
 use lib.Dec.{ltb, eqb}
 use borrow.Author.Tests.{eqb-true, ltb-false}
 use Rattle.net.specs.declared.Refusal.the-variants.{FileEnds, NotDue}
@@ -15,13 +15,14 @@ use Rattle.field.specs.declared.Value.the-variants.{Limits, Branch, Sink
 use Rattle.field.specs.declared.Field.{Field}
 use Rattle.field.specs.declared.FieldRead.the-variants.{Got, Cut, Refused}
 use Rattle.net.specs.Choose.{pick}
+use Rattle.net.proofs.Tests.{never}
 use Rattle.field.specs.Format.{numberAt, numbersAt, bytesOfAll, sum, table, lookup, widthsOf, lengthOf, tagOf, numbersOf, valueOf, valueIn, fieldIn, fieldAt, bytesOf, Fitting}
 use Rattle.field.proofs.Numbers.{AreBytes, numbers-back, all-back}
 use Rattle.field.proofs.Reading.{got}
 
 -- ---- written, then read
 
-shape : (v : Value) → (v ≡ valueOf (tagOf v) (numbersOf v)) × ((tagOf v < 256) × (lengthOf (tagOf v) < 65536) × (length (bytesOf v) ≡ 3 + lengthOf (tagOf v)))
+pub shape : (v : Value) → (v ≡ valueOf (tagOf v) (numbersOf v)) × ((tagOf v < 256) × (lengthOf (tagOf v) < 65536) × (length (bytesOf v) ≡ 3 + lengthOf (tagOf v)))
 shape (Limits l) = (refl, omega arith)
 shape (Branch p w) = (refl, omega arith)
 shape (Sink p w c q) = (refl, omega arith)
@@ -54,10 +55,10 @@ each-tag (row ∷ rows) P all t h = by (eqb t (row .0)) refl h (each-tag rows P 
     by false e k later = later k
 
 -- tag and numbers of what is read in a field of tag t
-abbrev Kept : ℕ → Type 0
+abbrev pub Kept : ℕ → Type 0
 Kept t = (l : List ℕ) → (tagOf (valueIn t l) ≡ t) × (numbersOf (valueIn t l) ≡ numbersAt (widthsOf t) l 3)
 
-kept : (t : ℕ) → lengthOf t < 65536 → Kept t
+pub kept : (t : ℕ) → lengthOf t < 65536 → Kept t
 kept = each-tag table Kept ((λ l. (refl, refl)), ((λ l. (refl, refl)), ((λ l. (refl, refl)), ((λ l. (refl, refl)), ((λ l. (refl, refl)), ((λ l. (refl, refl)), tt))))))
 
 -- a field of tag t, from its header on
@@ -79,9 +80,9 @@ same-bytes l by sized room =
 -- the ways to a field
 to-got : (at x : ℕ) (b₁ b₂ b₃ : Bool) {g f : Field} → pick b₁ (Refused (FileEnds at)) (pick b₂ (pick b₃ (Cut x at) (Got g)) (Refused (NotDue at))) ≡ Got f
     → (b₁ ≡ false) × (b₂ ≡ true) × (b₃ ≡ false) × (g ≡ f)
-to-got at x true b₂ b₃ e = let z : _≡_ {A = ℕ} 0 1 = cc in absurd (omega arith)
-to-got at x false false b₃ e = let z : _≡_ {A = ℕ} 0 1 = cc in absurd (omega arith)
-to-got at x false true true e = let z : _≡_ {A = ℕ} 0 1 = cc in absurd (omega arith)
+to-got at x true b₂ b₃ e = never (cc)
+to-got at x false false b₃ e = never (cc)
+to-got at x false true true e = never (cc)
 to-got at x false true false e = (refl, refl, refl, cc)
 
 -- what was read at a place is exactly the bytes there
@@ -106,3 +107,19 @@ written-read s at f by e =
       inside = omega arith;
       bytes = ap (λ (x : ℕ). take x l) n ∙ sym q;
     }
+
+-- ---- in a file
+
+-- what stands after some bytes that stand at a place
+pub after : (s bs rest : List ℕ) (at : ℕ) → drop at s ≡ bs ++ rest → drop (at + length bs) s ≡ rest
+after s bs rest at e = sym (drop-drop (length bs) at s) ∙ ap (drop (length bs)) e ∙ drop-append-seam bs rest
+
+-- a field whose bytes stand at a place is read there
+pub field-back : (s : List ℕ) (at : ℕ) (v : Value) (rest : List ℕ) → Fitting v → drop at s ≡ bytesOf v ++ rest → fieldAt s at ≡ Got (record { at = at; value = v })
+field-back s at v rest h e = ap (fieldIn at) e ∙ read-written at v rest h
+
+-- from the place where a field was read on the file is its bytes and those after it
+pub begins : (s : List ℕ) → AreBytes s → (at : ℕ) (f : Field) (v : Value) → fieldAt s at ≡ Got f → f .value ≡ v → drop at s ≡ bytesOf v ++ drop (at + length (bytesOf v)) s
+begins s by at f v e q =
+    let t : take (length (bytesOf v)) (drop at s) ≡ bytesOf v = rw q at (written-read s at f by e .bytes) in
+    sym (take-append-drop (length (bytesOf v)) (drop at s)) ∙ rw (t, drop-drop (length (bytesOf v)) at s)

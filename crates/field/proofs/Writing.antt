@@ -27,3 +27,7 @@ wrote-told bs out = by (ltb (length out) (length bs))
     by : (b : Bool) → (wroteNumber (pick b (Refused (NoRoom (length bs))) (Bytes (length bs))) ≡ pick b 9 0) × (wroteCount (pick b (Refused (NoRoom (length bs))) (Bytes (length bs))) ≡ length bs)
     by true = (refl, refl)
     by false = (refl, refl)
+
+-- with room for it a field is laid whole
+pub laid-whole : (bs out : List ℕ) → length bs ≤ length out → laid bs out ≡ sets out 0 bs
+laid-whole bs out h = rw (le-ltb (length out) (length bs) h)

@@ -7,11 +7,14 @@ use lib.Dec.{ltb, eqb}
 use lib.Seq.{sets}
 use Rattle.net.specs.Choose.{pick}
 use Rattle.net.specs.Refusal.{numberOf, placeOf}
+use Rattle.net.specs.declared.Refusal.{Refusal}
 use Rattle.net.specs.declared.Refusal.the-variants.{FileEnds, NotDue, NoRoom}
 use Rattle.field.specs.declared.Value.{Value}
 use Rattle.field.specs.declared.Value.the-variants.{Limits, Branch, Sink, Count, Entry, End}
 use Rattle.field.specs.declared.FieldRead.{FieldRead}
 use Rattle.field.specs.declared.FieldRead.the-variants.{Got, Cut, Refused}
+use Rattle.field.specs.declared.DueRead.{DueRead}
+use Rattle.field.specs.declared.DueRead.the-variants.{Got as Found, Refused as Missing}
 use Rattle.field.specs.declared.Wrote.{Wrote}
 use Rattle.field.specs.declared.Wrote.the-variants.{Bytes, Refused as NotWritten}
 
@@ -111,6 +114,19 @@ fieldIn at l =
 abbrev pub fieldAt : List ℕ → ℕ → FieldRead
 fieldAt s at = fieldIn at (drop at s)
 
+-- "tag unknown or not due there" is 2 and comes before a short body, so a body that is cut is 1 only where its tag is due
+abbrev pub cutAt : Bool → ℕ → Refusal
+cutAt due place = pick due (FileEnds place) (NotDue place)
+
+-- what is found where one tag is due
+abbrev pub dueIn : ℕ → FieldRead → DueRead
+dueIn tag (Got f) = pick (eqb (tagOf (f .value)) tag) (Found f) (Missing (NotDue (f .at)))
+dueIn tag (Cut t place) = Missing (cutAt (eqb t tag) place)
+dueIn tag (Refused r) = Missing r
+
+abbrev pub dueAt : ℕ → List ℕ → ℕ → DueRead
+dueAt tag s at = dueIn tag (fieldAt s at)
+
 -- ---- writing
 
 -- "a one-byte tag, a two-byte length and a value"
@@ -146,6 +162,14 @@ abbrev pub readPlace : FieldRead → ℕ
 readPlace (Got f) = f .at
 readPlace (Cut t place) = place
 readPlace (Refused r) = placeOf r
+
+abbrev pub dueNumber : DueRead → ℕ
+dueNumber (Found f) = 0
+dueNumber (Missing r) = numberOf r
+
+abbrev pub duePlace : DueRead → ℕ
+duePlace (Found f) = f .at
+duePlace (Missing r) = placeOf r
 
 -- 0 and the bytes written, or 9 and the bytes needed
 abbrev pub wroteNumber : Wrote → ℕ

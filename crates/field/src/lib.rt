@@ -2,9 +2,9 @@
 ghost use mathlib.Core.Path.{_≡_};
 ghost use mathlib.Core.List.{[], _∷_, _++_};
 ghost use Prim.Native.Nat.{_+_, _<_, _≤_};
-ghost use lib.ListN.{length};
+ghost use lib.ListN.{length, getD};
 ghost use lib.Seq.{sets};
-ghost use Rattle.field.specs.Format.{numberAt, bytesIn, lengthOf, valueIn, fieldIn, fieldAt, bytesOf, wrote, laid};
+ghost use Rattle.field.specs.Format.{numberAt, bytesIn, lengthOf, valueIn, fieldIn, fieldAt, dueIn, dueAt, bytesOf, wrote, laid};
 use net::Entry;
 use net::Limits;
 use net::Refusal;
@@ -41,6 +41,12 @@ pub enum FieldRead {
     Refused(Refusal),
 }
 
+// What reading finds at a place where one tag is due.
+pub enum DueRead {
+    Got(Field),
+    Refused(Refusal),
+}
+
 // What writing a field answers.
 pub enum Wrote {
     Bytes(usize),
@@ -57,7 +63,9 @@ fn read2(s: &[u8], k: usize) -> u16
     requires { ⌜ k + 2 ≤ length (now s) ⌝ }
     ensures { λ r. ⌜ r ≡ numberAt 2 (now (s .entry)) k ⌝ }
 {
-    wide(s[k]) * 256 + wide(s[k + 1])
+    let high = s[k];
+    let low = s[k + 1];
+    wide(high) * 256 + wide(low)
 }
 
 fn read4(s: &[u8], k: usize) -> u32
@@ -113,14 +121,11 @@ fn value_in(f: &[u8], tag: u8) -> Value
     }
 }
 
-// The field at the front of the bytes from the place at on.
-fn field_in(f: &[u8], at: usize) -> FieldRead
+// The field of this tag at the front of the bytes from the place at on. Callers name the tag as a number, so the compiler leaves one arm of each table.
+fn field_of(f: &[u8], at: usize, tag: u8) -> FieldRead
+    requires { ⌜ (3 ≤ length (now f)) × (getD (now f) 0 0 ≡ tag) ⌝ }
     ensures { λ r. ⌜ r ≡ fieldIn at (now (f .entry)) ⌝ }
 {
-    if f.len() < 3 {
-        return FieldRead::Refused(Refusal::FileEnds(at));
-    }
-    let tag = f[0];
     let body = length_of(tag);
     let said = read2(f, 1);
     if said as usize != body {
@@ -138,6 +143,25 @@ fn field_in(f: &[u8], at: usize) -> FieldRead
     })
 }
 
+// The field at the front of the bytes from the place at on.
+fn field_in(f: &[u8], at: usize) -> FieldRead
+    ensures { λ r. ⌜ r ≡ fieldIn at (now (f .entry)) ⌝ }
+{
+    if f.len() < 3 {
+        return FieldRead::Refused(Refusal::FileEnds(at));
+    }
+    let tag = f[0];
+    match tag {
+        1 => field_of(f, at, 1),
+        2 => field_of(f, at, 2),
+        3 => field_of(f, at, 3),
+        17 => field_of(f, at, 17),
+        18 => field_of(f, at, 18),
+        127 => field_of(f, at, 127),
+        _ => FieldRead::Refused(Refusal::NotDue(at)),
+    }
+}
+
 // The field at a place of a file, or why there is none.
 pub fn read_field(s: &[u8], at: usize) -> FieldRead
     ensures { λ r. ⌜ r ≡ fieldAt (now (s .entry)) at ⌝ }
@@ -146,6 +170,35 @@ pub fn read_field(s: &[u8], at: usize) -> FieldRead
         return FieldRead::Refused(Refusal::FileEnds(at));
     }
     field_in(&s[at..], at)
+}
+
+// The field of this tag at the front of the bytes from the place at on, where no other is due.
+fn due_in(f: &[u8], at: usize, tag: u8) -> DueRead
+    ensures { λ r. ⌜ r ≡ dueIn tag (fieldIn at (now (f .entry))) ⌝ }
+{
+    if f.len() < 3 {
+        return DueRead::Refused(Refusal::FileEnds(at));
+    }
+    let there = f[0];
+    if there != tag {
+        return DueRead::Refused(Refusal::NotDue(at));
+    }
+    let read = field_of(f, at, tag);
+    match read {
+        FieldRead::Got(field) => DueRead::Got(field),
+        FieldRead::Cut { tag: _, place } => DueRead::Refused(Refusal::FileEnds(place)),
+        FieldRead::Refused(r) => DueRead::Refused(r),
+    }
+}
+
+// The field at a place of a file where this tag is due, or the refusal: 2 comes before a cut body's 1.
+pub fn read_due(s: &[u8], at: usize, tag: u8) -> DueRead
+    ensures { λ r. ⌜ r ≡ dueAt tag (now (s .entry)) at ⌝ }
+{
+    if s.len() < at {
+        return DueRead::Refused(Refusal::FileEnds(at));
+    }
+    due_in(&s[at..], at, tag)
 }
 
 fn put_head(out: &mut [u8], tag: u8, size: u8)

@@ -13,7 +13,9 @@ use Rattle.net.specs.Counted.{unlimited, Within}
 use Rattle.net_file.specs.declared.Taken.{Taken}
 use Rattle.net_file.specs.declared.Taken.the-variants.{Node as OneNode, End as Last}
 use Rattle.net_file.specs.NetFile.{takenAt, follow, fieldsFrom, nodesOf, columnsOf, laidOver}
-use Rattle.net_file.specs.Own.{blank, listed}
+use Rattle.field.specs.Listed.{listed}
+use Rattle.field.proofs.Listing.{listed-next, listed-end}
+use Rattle.net_file.specs.Own.{blank}
 
 -- five columns as long as five others
 pub record AsLong (a b : Net) : Type 0 where
@@ -75,9 +77,9 @@ module _ (s : List ℕ) (places : ℕ) (lent : Net) where
     }
 
     -- the end: all nodes are laid
-    pub fill-last : i < places → {next : ℕ} → takenAt s at ≡ Last next → now ≡ laidFrom lent 1 (places - 1) s 12
+    pub fill-last : i < places → takenAt s at ≡ Last → now ≡ laidFrom lent 1 (places - 1) s 12
     unfolding nodesOf
-    fill-last h {next} e = sym (step h (Last next) e)
+    fill-last h e = sym (step h Last e)
 
 -- ---- a copy of the first n places
 module _ (nodes : ℕ → Node) (n : ℕ) (lent : Net) where
@@ -90,14 +92,10 @@ module _ (nodes : ℕ → Node) (n : ℕ) (lent : Net) where
 
   module _ {now : Net} {i : ℕ} (c : Copying now i) where
     pub copy-next : i < n → {d : Node} → d ≡ nodes i → {more : Net} → more ≡ laidOver now i (columnsOf unlimited (d ∷ [])) → Copying more (i + 1)
-    unfolding listed
-    copy-next h {d} e {more} q =
-        let z : n - i ≡ suc (n - suc i) = omega arith in
-        record {
-          long = laid-long now i d q (c .long);
-          rest = rw (add-one, q, e) (c .rest ∙ ap (λ (k : ℕ). laidOver now i (columnsOf unlimited (listed nodes k i))) z);
-        }
+    copy-next h {d} e {more} q = record {
+      long = laid-long now i d q (c .long);
+      rest = rw (q, e) (c .rest ∙ ap (λ (ds : List Node). laidOver now i (columnsOf unlimited ds)) (listed-next nodes h) ∙ rw add-one);
+    }
 
     pub copy-end : n ≤ i → now ≡ laidOver lent 0 (columnsOf unlimited (listed nodes n 0))
-    unfolding listed
-    copy-end h = let z : n - i ≡ 0 = omega arith in sym (c .rest ∙ ap (λ (k : ℕ). laidOver now i (columnsOf unlimited (listed nodes k i))) z)
+    copy-end h = sym (c .rest ∙ ap (λ (ds : List Node). laidOver now i (columnsOf unlimited ds)) (listed-end nodes h))

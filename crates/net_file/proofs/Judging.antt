@@ -109,11 +109,11 @@ module _ (l : Limits) (s : List ℕ) where
     stop-wrong r e = told-unsound r (step (Neither r) e .0)
 
     -- the end
-    module _ {next : ℕ} {r : Judged} (e : takenAt s at ≡ Last next)
-        (is : r ≡ thenJudge (unless (leb (length s) next) (BytesAfterEnd next)) (childedBy (λ v. getD kinds v 0) (λ v. getD counts v 0) i)) where
+    module _ {r : Judged} (e : takenAt s at ≡ Last)
+        (is : r ≡ thenJudge (unless (leb (length s) (at + 3)) (BytesAfterEnd (at + 3))) (childedBy (λ v. getD kinds v 0) (λ v. getD counts v 0) i)) where
       all-seen : i ≡ length All
       unfolding nodesOf
-      all-seen = let h : length All ≤ i = none-left All i (step (Last next) e .1) in omega (arith, j .within)
+      all-seen = let h : length All ≤ i = none-left All i (step Last e .1) in omega (arith, j .within)
 
       whole-is : Whole ≡ r
       unfolding fieldsJudged
@@ -122,7 +122,7 @@ module _ (l : Limits) (s : List ℕ) where
           let same : childedBy (λ v. getD kinds v 0) (λ v. getD counts v 0) i ≡ childed N
           = each-same (λ v. hasChild v (getD kinds v 0) (getD counts v 0)) (λ v. hasChild v (kind N v) (children N (i - 1) v)) i 0 (λ v lo hi. rw (j .kinds-are v (omega arith), j .tallied .each v))
           ∙ ap (λ (x : ℕ). childedBy (kind N) (children N (x - 1)) x) (sym m) in
-          step (Last next) e .0 ∙ sym (is ∙ rw same)
+          step Last e .0 ∙ sym (is ∙ rw same)
 
       pub stop-end : (x : Refusal) → r ≡ Unsound x → NotRead x ≡ tells (netFrom s l)
       stop-end x h = told-unsound x (whole-is ∙ h)

@@ -5,8 +5,8 @@ use native.Mathlib.Omega.{arith}
 use mathlib.Core.Path.{_≡_, refl, sym, ap, _∙_}
 use mathlib.Core.Bool.{Bool, true, false}
 use mathlib.Core.List.{List, [], _∷_, _++_, map}
-use lib.ListN.{length, getD, take, drop, length-map, take-append-drop, drop-of-length-le}
-use lib.Seq.{sets, sets-eq, drop-drop, take-append-seam}
+use lib.ListN.{length, getD, take, drop, length-map, drop-of-length-le}
+use lib.Seq.{sets, sets-eq, take-append-seam}
 use lib.Dec.{ltb, leb}
 use borrow.Author.Tests.{eq-eqb, lt-ltb, le-ltb, le-leb, leb-true, ltb-false}
 use Rattle.net.specs.declared.Limits.{Limits}
@@ -24,9 +24,12 @@ use Rattle.field.specs.declared.Value.the-variants.{Limits as LimitsField, Bran
 use Rattle.field.specs.declared.Field.{Field}
 use Rattle.field.specs.declared.FieldRead.{FieldRead}
 use Rattle.field.specs.declared.FieldRead.the-variants.{Got, Cut, Refused as NoField}
-use Rattle.field.specs.Format.{fieldAt, bytesOf}
+use Rattle.field.specs.declared.DueRead.{DueRead}
+use Rattle.field.specs.declared.DueRead.the-variants.{Got as Due, Refused as NotThere}
+use Rattle.field.specs.Format.{fieldAt, dueAt, bytesOf}
+use Rattle.field.proofs.Due.{found}
 use Rattle.field.proofs.Numbers.{AreBytes}
-use Rattle.field.proofs.RoundTrip.{Stands, written-read}
+use Rattle.field.proofs.RoundTrip.{written-read, begins}
 use Rattle.net_file.specs.declared.Front.the-variants.{Limits as Found, Refused as NotFound}
 use Rattle.net_file.specs.declared.Taken.{Taken}
 use Rattle.net_file.specs.declared.Taken.the-variants.{Node as OneNode, End as Last, Refused as Neither}
@@ -62,37 +65,36 @@ node-value at d next (Count n) e = never (cc)
 node-value at d next (Entry x) e = never (cc)
 node-value at d next End e = never (cc)
 
-end-value : (at next : ℕ) (v : Value) → takenValue at v ≡ Last next → (v ≡ End) × (next ≡ at + length (bytesOf v))
-end-value at next End e = (refl, cc)
-end-value at next (LimitsField l) e = never (cc)
-end-value at next (Branch p w) e = never (cc)
-end-value at next (Sink p w c q) e = never (cc)
-end-value at next (Count n) e = never (cc)
-end-value at next (Entry x) e = never (cc)
+end-value : (at : ℕ) (v : Value) → takenValue at v ≡ Last → v ≡ End
+end-value at End e = refl
+end-value at (LimitsField l) e = never (cc)
+end-value at (Branch p w) e = never (cc)
+end-value at (Sink p w c q) e = never (cc)
+end-value at (Count n) e = never (cc)
+end-value at (Entry x) e = never (cc)
 
-front-field : (l : Limits) (g : FieldRead) → frontOf g ≡ Found l → (f : Field) × (g ≡ Got f) × (f .value ≡ LimitsField l) × (limitsInRange l ≡ true)
-front-field l (Got f) e = let (v, r) = front-value (f .at) l (f .value) e in (f, refl, v, r)
-front-field l (Cut t place) e = never (cc)
-front-field l (NoField r) e = never (cc)
+front-field : (l : Limits) (d : DueRead) → frontOf d ≡ Found l → (f : Field) × (d ≡ Due f) × (f .value ≡ LimitsField l) × (limitsInRange l ≡ true)
+front-field l (Due f) e = let (v, r) = front-value (f .at) l (f .value) e in (f, refl, v, r)
+front-field l (NotThere r) e = never (cc)
 
 node-field : (d : Node) (next : ℕ) (g : FieldRead) → takenOf g ≡ OneNode d next → (f : Field) × (g ≡ Got f) × (f .value ≡ fieldOf d) × (next ≡ f .at + length (bytesOf (f .value)))
 node-field d next (Got f) e = let (v, n) = node-value (f .at) d next (f .value) e in (f, refl, v, n)
 node-field d next (Cut t place) e = never (cc)
 node-field d next (NoField r) e = never (cc)
 
-end-field : (next : ℕ) (g : FieldRead) → takenOf g ≡ Last next → (f : Field) × (g ≡ Got f) × (f .value ≡ End) × (next ≡ f .at + length (bytesOf (f .value)))
-end-field next (Got f) e = let (v, n) = end-value (f .at) next (f .value) e in (f, refl, v, n)
-end-field next (Cut t place) e = never (cc)
-end-field next (NoField r) e = never (cc)
+end-field : (g : FieldRead) → takenOf g ≡ Last → (f : Field) × (g ≡ Got f) × (f .value ≡ End)
+end-field (Got f) e = (f, refl, end-value (f .at) (f .value) e)
+end-field (Cut t place) e = never (cc)
+end-field (NoField r) e = never (cc)
 
 -- ---- a file's bytes
 module _ (s : List ℕ) (by : AreBytes s) where
-  -- the file from a place on begins with the bytes of the field there
-  split : (at : ℕ) (f : Field) (v : Value) → fieldAt s at ≡ Got f → f .value ≡ v → (bytesOf v ++ drop (at + length (bytesOf v)) s ≡ drop at s) × (f .at ≡ at)
-  split at f v e q =
-      let w : Stands s at f = written-read s at f by e in
-      let t : take (length (bytesOf v)) (drop at s) ≡ bytesOf v = rw q at (w .bytes) in
-      (ap (λ (x : List ℕ). x ++ drop (at + length (bytesOf v)) s) (sym t) ∙ rw (← drop-drop (length (bytesOf v)) at s) (take-append-drop (length (bytesOf v)) (drop at s)), w .place)
+  -- an end that was read lies inside the file
+  pub end-inside : (at : ℕ) → takenAt s at ≡ Last → at + 3 ≤ length s
+  unfolding takenAt
+  end-inside at e =
+      let (f, got, v) = end-field (fieldAt s at) e in
+      omega (arith, written-read s at f by got .inside, ap (λ (x : Value). length (bytesOf x)) v)
 
   module _ (l : Limits) (ds : List Node) where
     abbrev N : Net
@@ -102,20 +104,17 @@ module _ (s : List ℕ) (by : AreBytes s) where
     unfolding takenAt bytesFrom
     node-bytes at i d next k e h later =
         let (f, got, v, n) = node-field d next (fieldAt s at) e in
-        let (here, place) = split at f (fieldOf d) got v in
-        let next-is : next ≡ at + length (bytesOf (fieldOf d)) = n ∙ rw (place, v) in
+        let next-is : next ≡ at + length (bytesOf (fieldOf d)) = n ∙ rw (written-read s at f by got .place, v) in
         ap (λ (x : Node). bytesOf (fieldOf x) ++ bytesFrom (node N) k (suc i)) (node-is l ds i ∙ h)
         ∙ ap (λ (x : List ℕ). bytesOf (fieldOf d) ++ x) (later ∙ ap (λ (x : ℕ). drop x s) next-is)
-        ∙ here
+        ∙ sym (begins s by at f (fieldOf d) got v)
 
-    end-bytes : (at next : ℕ) → takenAt s at ≡ Last next → length s ≤ next → bytesOf End ≡ drop at s
+    end-bytes : (at : ℕ) → takenAt s at ≡ Last → length s ≤ at + 3 → bytesOf End ≡ drop at s
     unfolding takenAt
-    end-bytes at next e h =
-        let (f, got, v, n) = end-field next (fieldAt s at) e in
-        let (here, place) = split at f End got v in
-        let next-is : next ≡ at + 3 = n ∙ rw (place, v) in
+    end-bytes at e h =
+        let (f, got, v) = end-field (fieldAt s at) e in
         let none : drop (at + 3) s ≡ [] = drop-of-length-le s {i = at + 3} (omega arith) in
-        rw none at here
+        sym (rw none at (begins s by at f End got v))
 
     bytes-back : (k at i : ℕ) → fieldsJudged N (length s) i (fieldsFrom k s at) ≡ Sound → drop i ds ≡ nodesOf (fieldsFrom k s at) → bytesFrom (node N) (length (nodesOf (fieldsFrom k s at))) i ≡ drop at s
     unfolding fieldsFrom fieldsJudged nodesOf bytesFrom
@@ -128,8 +127,8 @@ module _ (s : List ℕ) (by : AreBytes s) where
         on (OneNode d next) q j left later =
             let head : Heads ds i d (nodesOf (fieldsFrom k s next)) = heads i left in
             node-bytes at i d next (length (nodesOf (fieldsFrom k s next))) q (head .first) (later next (then-met (nodeJudged N i at) _ j .1) (head .others))
-        on (Last next) q j left later =
-            end-bytes at next q (leb-true (length s) next (unless-met _ (BytesAfterEnd next) (then-met (unless (leb (length s) next) (BytesAfterEnd next)) _ j .0)))
+        on Last q j left later =
+            end-bytes at q (leb-true (length s) (at + 3) (unless-met _ (BytesAfterEnd (at + 3)) (then-met (unless (leb (length s) (at + 3)) (BytesAfterEnd (at + 3))) _ j .0)))
         on (Neither r) q j left later = never (cc)
 
 -- ---- the columns of a list of nodes
@@ -156,8 +155,8 @@ pub same-bytes : (s : List ℕ) (n : Net) → AreBytes s → netOf s ≡ read n 
 unfolding judged
 same-bytes s n by e =
     let w : WasRead s n = was-read s n e in
-    let (f, got, v, r) = front-field (n .limits) (fieldAt s 0) (w .front) in
-    let (front, place) = split s by 0 f (LimitsField (n .limits)) got v in
+    let (f, due, v, r) = front-field (n .limits) (dueAt 1 s 0) (w .front) in
+    let front = sym (begins s by 0 f (LimitsField (n .limits)) (found 1 (fieldAt s 0) due .0) v) in
     let m : places n ≡ suc (length (nodesOf (fieldsOf s))) = ap places (w .is) ∙ places-are (n .limits) (source ∷ nodesOf (fieldsOf s)) in
     let k : places n - 1 ≡ length (nodesOf (fieldsOf s)) = omega arith in
     let (nodes, c) = columns-judged n (length s) 1 (fieldsOf s) (w .sound) in

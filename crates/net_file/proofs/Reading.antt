@@ -16,13 +16,14 @@ use Rattle.net.proofs.Tests.{never}
 use Rattle.net.specs.Figures.{mostNodes, mostPlaces}
 use Rattle.net.specs.Net.{Net, places, node}
 use Rattle.net.specs.Counted.{unlimited}
-use Rattle.field.specs.Format.{fieldAt}
+use Rattle.field.specs.Format.{dueAt}
 use Rattle.net_file.specs.declared.Front.{Front}
 use Rattle.net_file.specs.declared.Front.the-variants.{Limits as Found, Refused as NotFound}
 use Rattle.net_file.specs.declared.NetRead.{NetRead}
 use Rattle.net_file.specs.declared.NetRead.the-variants.{Read, Refused as NotRead}
 use Rattle.net_file.specs.NetFile.{frontOf, nodesOf, columnsOf, source, fieldsJudged, Outcome, read, refused, whenSound, netWith, fieldsOf, netFrom, fromFront, netOf, room, laidOver, answered, filled, ReadNet}
-use Rattle.net_file.specs.Own.{tells, listed, blank, JudgedFile}
+use Rattle.field.specs.Listed.{listed}
+use Rattle.net_file.specs.Own.{tells, blank, JudgedFile}
 use Rattle.net_file.proofs.Nodes.{node-is, places-are}
 use Rattle.net_file.proofs.Judging.{columns-judged, few-nodes}
 use Rattle.net_file.proofs.Filling.{laidFrom}
@@ -30,7 +31,7 @@ use Rattle.net_file.proofs.Filling.{laidFrom}
 -- ---- what a file that was read says
 
 pub record WasRead (s : List ℕ) (n : Net) : Type 0 where
-  pub front : frontOf (fieldAt s 0) ≡ Found (n .limits)
+  pub front : frontOf (dueAt 1 s 0) ≡ Found (n .limits)
   pub is : n ≡ netWith (n .limits) (fieldsOf s)
   pub sound : fieldsJudged n (length s) 1 (fieldsOf s) ≡ Sound
 
@@ -40,9 +41,9 @@ was-sound (Unsound r) n m e = never (cc)
 
 pub was-read : (s : List ℕ) (n : Net) → netOf s ≡ read n → WasRead s n
 unfolding netOf netFrom
-was-read s n e = by (frontOf (fieldAt s 0)) refl e
+was-read s n e = by (frontOf (dueAt 1 s 0)) refl e
   where
-    by : (f : Front) → frontOf (fieldAt s 0) ≡ f → fromFront s f ≡ read n → WasRead s n
+    by : (f : Front) → frontOf (dueAt 1 s 0) ≡ f → fromFront s f ≡ read n → WasRead s n
     by (NotFound r) q h = never (cc)
     by (Found l) q h =
         let (j, is) = was-sound (fieldsJudged (netWith l (fieldsOf s)) (length s) 1 (fieldsOf s)) (netWith l (fieldsOf s)) n h in

@@ -6,7 +6,7 @@ use mathlib.Core.Path.{_≡_, refl, sym, ap, _∙_}
 use mathlib.Core.Bool.{Bool, true, false}
 use mathlib.Core.List.{List, [], _∷_, _++_, map}
 use lib.ListN.{length, getD, take, drop, length-drop}
-use lib.Seq.{sets, drop-cons, drop-drop, drop-append-seam, take-all}
+use lib.Seq.{sets, drop-cons, take-all}
 use lib.Dec.{eqb, ltb, leb}
 use borrow.Author.Tests.{eqb-true, ltb-false, le-ltb, le-leb}
 use Rattle.net.specs.declared.Limits.{Limits}
@@ -22,11 +22,10 @@ use Rattle.net.specs.Sound.{SoundNet}
 use Rattle.net.proofs.Tests.{never, both-met, unless-met, then-met}
 use Rattle.net.proofs.Each.{each-met}
 use Rattle.net.proofs.SoundSays.{sound-says}
-use Rattle.field.specs.declared.Value.{Value}
 use Rattle.field.specs.declared.Value.the-variants.{Limits as LimitsField, Branch, Sink, End}
-use Rattle.field.specs.declared.FieldRead.the-variants.{Got}
-use Rattle.field.specs.Format.{fieldIn, fieldAt, bytesOf, Fitting}
-use Rattle.field.proofs.RoundTrip.{read-written}
+use Rattle.field.specs.declared.FieldRead.{FieldRead}
+use Rattle.field.specs.Format.{dueIn, dueAt, bytesOf, Fitting}
+use Rattle.field.proofs.RoundTrip.{after, field-back}
 use Rattle.net_file.specs.declared.Front.the-variants.{Limits as Found}
 use Rattle.net_file.specs.declared.Taken.{Taken}
 use Rattle.net_file.specs.declared.Taken.the-variants.{Node as OneNode, End as Last}
@@ -34,7 +33,7 @@ use Rattle.net_file.specs.declared.NetRead.{NetRead}
 use Rattle.net_file.specs.declared.NetRead.the-variants.{Read}
 use Rattle.net_file.specs.declared.NetWrote.the-variants.{Written, Refused as NotWritten}
 use Rattle.net_file.specs.NetFile.{frontOf, takenValue, takenOf, takenAt, follow, fieldsFrom, nodesOf, columnsOf, source, fieldsJudged, read, whenSound, netWith, fieldsOf, netFrom, fromFront, netOf, room, laidOver, ReadNet, firstPlaces, fieldOf, bytesFrom, netBytes, written, leftIn, WroteNet}
-use Rattle.net_file.specs.Own.{listed}
+use Rattle.field.specs.Listed.{listed}
 use Rattle.net_file.proofs.Judging.{admitted-anywhere, admitted-fits}
 use Rattle.net_file.proofs.ReadWrite.{front-is}
 
@@ -64,10 +63,6 @@ fitting d p w c q = by (eqb (d .kind) 1)
     by : (b : Bool) → Fitting (pick b (Sink (d .parent) (d .wire) (d .pin) (d .polarity)) (Branch (d .parent) (d .wire)))
     by true = (omega arith, (omega arith, (omega arith, (omega arith, tt))))
     by false = (omega arith, (omega arith, tt))
-
--- a field that stands at a place is read there
-field-back : (s : List ℕ) (at : ℕ) (v : Value) (rest : List ℕ) → Fitting v → drop at s ≡ bytesOf v ++ rest → fieldAt s at ≡ Got (record { at = at; value = v })
-field-back s at v rest h e = ap (fieldIn at) e ∙ read-written at v rest h
 
 -- ---- the nodes of the columns as a list
 
@@ -113,7 +108,7 @@ module _ (n : Net) (holds : judged n ≡ Sound) where
         let fit : Fitting (fieldOf (node n i)) = fitting (node n i) (omega (arith, f .lower i lo hi, f .few)) (f .wire-most i) (f .pin-most i) (omega (arith, f .polarity-most i, f .repeater-most)) in
         ap takenOf (field-back s at (fieldOf (node n i)) rest fit e) ∙ taken-back at (n .limits) (node n i) (in-range i lo hi)
 
-    end-here : (at : ℕ) → drop at s ≡ bytesOf End → takenAt s at ≡ Last (at + 3)
+    end-here : (at : ℕ) → drop at s ≡ bytesOf End → takenAt s at ≡ Last
     unfolding takenAt
     end-here at e = ap takenOf (field-back s at End [] tt e)
 
@@ -126,13 +121,12 @@ module _ (n : Net) (holds : judged n ≡ Sound) where
     unfolding fieldsFrom fieldsJudged nodesOf bytesFrom listed
     back m zero at i h lo e b = absurd (omega arith)
     back zero (suc k) at i h lo e b =
-        let t : takenAt s at ≡ Last (at + 3) = end-here at b in
+        let t : takenAt s at ≡ Last = end-here at b in
         let long : length s ≤ at + 3 = omega (arith, length-drop at s, ap length b) in
         record { nodes = rw t; sound = rw (t, le-leb (length s) (at + 3) long) (met .4) }
     back (suc m) (suc k) at i h lo e b =
         let t : takenAt s at ≡ OneNode (node n i) (at + length (bytesOf (fieldOf (node n i)))) = node-here at i (bytesFrom (node n) m (suc i)) lo (omega arith) b in
-        let rest : drop (at + length (bytesOf (fieldOf (node n i)))) s ≡ bytesFrom (node n) m (suc i)
-        = sym (drop-drop (length (bytesOf (fieldOf (node n i)))) at s) ∙ ap (drop (length (bytesOf (fieldOf (node n i))))) b ∙ drop-append-seam (bytesOf (fieldOf (node n i))) (bytesFrom (node n) m (suc i)) in
+        let rest : drop (at + length (bytesOf (fieldOf (node n i)))) s ≡ bytesFrom (node n) m (suc i) = after s (bytesOf (fieldOf (node n i))) (bytesFrom (node n) m (suc i)) at b in
         let later : Back k (at + length (bytesOf (fieldOf (node n i)))) m (suc i) = back m k (at + length (bytesOf (fieldOf (node n i)))) (suc i) (omega arith) (omega arith) (omega arith) rest in
         let ok : nodeJudged n i at ≡ Sound = admitted-anywhere (n .limits) (node n i) i (kind n (parent n i)) (children n (i - 1) (parent n i)) i at (node-met i lo (omega arith)) in
         record {
@@ -168,8 +162,8 @@ module _ (n : Net) (holds : judged n ≡ Sound) where
   read-back =
       let f : SoundNet n = facts in
       let fit : Fitting (LimitsField (n .limits)) = (omega (arith, f .limit-most), (omega (arith, f .limit-most, f .half), (omega (arith, f .repeater-most), tt))) in
-      let front : frontOf (fieldAt (netBytes n) 0) ≡ Found (n .limits)
-      = ap frontOf (field-back (netBytes n) 0 (LimitsField (n .limits)) (bytesFrom (node n) (places n - 1) 1) fit refl) ∙ rw (met .1) in
+      let front : frontOf (dueAt 1 (netBytes n) 0) ≡ Found (n .limits)
+      = ap (λ (g : FieldRead). frontOf (dueIn 1 g)) (field-back (netBytes n) 0 (LimitsField (n .limits)) (bytesFrom (node n) (places n - 1) 1) fit refl) ∙ rw (met .1) in
       let b : Back (netBytes n) 1025 12 (places n - 1) 1 = back (netBytes n) (places n - 1) 1025 12 1 (omega (arith, f .few)) (omega arith) (omega (arith, f .some)) refl in
       let is : netWith (n .limits) (fieldsOf (netBytes n)) ≡ n = ap (λ (ds : List Node). columnsOf (n .limits) (source ∷ ds)) (b .nodes) ∙ columns-back in
       ap (fromFront (netBytes n)) front

@@ -5,22 +5,16 @@ use native.Mathlib.Numerals.{add-one}
 use mathlib.Core.Path.{_≡_, refl, sym, ap, _∙_}
 use mathlib.Core.Bool.{Bool, true, false}
 use mathlib.Core.List.{List, _++_}
-use lib.ListN.{length, take, drop, length-append, length-drop}
-use lib.Seq.{sets, length-sets, take-all}
+use lib.ListN.{length, length-append}
+use lib.Seq.{sets, length-sets}
 use lib.Dec.{eqb}
-use borrow.Author.Tests.{le-ltb}
-use Rattle.net.specs.declared.Refusal.{Refusal}
 use Rattle.net.specs.declared.Limits.{Limits}
 use Rattle.net.specs.declared.Node.{Node}
-use Rattle.net.proofs.Tests.{never}
 use Rattle.net.specs.Choose.{pick}
 use Rattle.field.specs.declared.Value.{Value}
 use Rattle.field.specs.declared.Value.the-variants.{Limits as LimitsField, Branch, Sink, End}
-use Rattle.field.specs.declared.Wrote.{Wrote}
-use Rattle.field.specs.declared.Wrote.the-variants.{Bytes, Refused as NotWritten}
-use Rattle.field.specs.Format.{bytesOf, wrote, laid}
+use Rattle.field.specs.Format.{bytesOf}
 use Rattle.field.proofs.Numbers.{sets-append}
-use Rattle.field.proofs.Parts.{part-back}
 use Rattle.net_file.specs.NetFile.{fieldOf, bytesFrom}
 
 pub node-size : (d : Node) → length (bytesOf (fieldOf d)) ≤ 14
@@ -29,30 +23,6 @@ node-size d = by (eqb (d .kind) 1)
     by : (b : Bool) → length (bytesOf (pick b (Sink (d .parent) (d .wire) (d .pin) (d .polarity)) (Branch (d .parent) (d .wire)))) ≤ 14
     by true = omega arith
     by false = omega arith
-
--- the field writer, with room
-module _ (bs out : List ℕ) (h : length bs ≤ length out) {r : Wrote} {more : List ℕ} (e : (r ≡ wrote bs out) × (more ≡ laid bs out)) where
-  wrote-is : (r ≡ Bytes (length bs)) × (more ≡ sets out 0 bs)
-  wrote-is = let t = le-ltb (length out) (length bs) h in (e .0 ∙ rw t, e .1 ∙ rw t)
-
-  pub put-count : {m : ℕ} → r ≡ Bytes m → (m ≡ length bs) × (more ≡ sets out 0 bs)
-  put-count q = let x = wrote-is .0 in (cc, wrote-is .1)
-
-  pub put-never : {A : Type 0} {x : Refusal} → r ≡ NotWritten x → A
-  put-never q = let x = wrote-is .0 in never (cc)
-
--- the part of a buffer from a place on
-abbrev Part : List ℕ → ℕ → List ℕ
-Part out at = take (length out - at) (drop at out)
-
-part-long : (out : List ℕ) (at : ℕ) → length (Part out at) ≡ length out - at
-part-long out at = ap length (take-all (length out - at) (drop at out) (rw length-drop (omega arith))) ∙ length-drop at out
-
-pub part-room : (out : List ℕ) (at m : ℕ) → at + m ≤ length out → m ≤ length (Part out at)
-part-room out at m h = omega (arith, part-long out at)
-
-pub put-back : (out vs : List ℕ) (at : ℕ) {part : List ℕ} → at + length vs ≤ length out → part ≡ sets (Part out at) 0 vs → take at out ++ (part ++ drop (length out - at) (drop at out)) ≡ sets out at vs
-put-back out vs at h e = ap (λ (p : List ℕ). take at out ++ (p ++ drop (length out - at) (drop at out))) e ∙ part-back out vs at (omega arith)
 
 module _ (nodes : ℕ → Node) (places : ℕ) where
   -- the bytes from node i on

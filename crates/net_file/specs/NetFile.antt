@@ -9,7 +9,7 @@ use lib.Dec.{eqb, ltb, leb}
 use Rattle.net.specs.declared.Limits.{Limits}
 use Rattle.net.specs.declared.Node.{Node}
 use Rattle.net.specs.declared.Refusal.{Refusal}
-use Rattle.net.specs.declared.Refusal.the-variants.{FileEnds, NotDue, OutOfRange, WrongParent, BytesAfterEnd, NoRoom}
+use Rattle.net.specs.declared.Refusal.the-variants.{NotDue, OutOfRange, WrongParent, BytesAfterEnd, NoRoom}
 use Rattle.net.specs.declared.Judged.{Judged}
 use Rattle.net.specs.declared.Judged.the-variants.{Sound, Refused as Unsound}
 use Rattle.net.specs.Figures.{mostPlaces}
@@ -21,7 +21,9 @@ use Rattle.field.specs.declared.Value.{Value}
 use Rattle.field.specs.declared.Value.the-variants.{Limits as LimitsField, Branch, Sink, Count, Entry, End}
 use Rattle.field.specs.declared.FieldRead.{FieldRead}
 use Rattle.field.specs.declared.FieldRead.the-variants.{Got, Cut, Refused as NoField}
-use Rattle.field.specs.Format.{fieldAt, bytesOf, laid}
+use Rattle.field.specs.declared.DueRead.{DueRead}
+use Rattle.field.specs.declared.DueRead.the-variants.{Got as Due, Refused as NotThere}
+use Rattle.field.specs.Format.{fieldAt, cutAt, dueAt, bytesOf, laid}
 use Rattle.net_file.specs.declared.Front.{Front}
 use Rattle.net_file.specs.declared.Front.the-variants.{Limits as Found, Refused as NotFound}
 use Rattle.net_file.specs.declared.Taken.{Taken}
@@ -33,10 +35,6 @@ use Rattle.net_file.specs.declared.NetWrote.the-variants.{Written, Refus
 
 -- ---- one field, where it is due or not
 
--- "tag unknown or not due there" is 2 and comes before a short body, so a body that is cut is 1 only where its tag is due
-abbrev pub cutAt : Bool → ℕ → Refusal
-cutAt due place = pick due (FileEnds place) (NotDue place)
-
 -- the front: the limits, and nothing else is due
 abbrev pub frontValue : ℕ → Value → Front
 frontValue at (LimitsField l) = pick (limitsInRange l) (Found l) (NotFound (OutOfRange at))
@@ -46,10 +44,9 @@ frontValue at (Count n) = NotFound (NotDue at)
 frontValue at (Entry e) = NotFound (NotDue at)
 frontValue at End = NotFound (NotDue at)
 
-abbrev pub frontOf : FieldRead → Front
-frontOf (Got f) = frontValue (f .at) (f .value)
-frontOf (Cut t place) = NotFound (cutAt (eqb t 1) place)
-frontOf (NoField r) = NotFound r
+abbrev pub frontOf : DueRead → Front
+frontOf (Due f) = frontValue (f .at) (f .value)
+frontOf (NotThere r) = NotFound r
 
 -- every later place: a branch point, a sink or the end
 abbrev pub nodeDue : ℕ → Bool
@@ -61,7 +58,7 @@ takenValue at (Branch p w) = OneNode (record { parent = p; wire = w; kind = 0; p
 takenValue at (Sink p w c q) = OneNode (record { parent = p; wire = w; kind = 1; pin = c; polarity = q }) (at + length (bytesOf (Sink p w c q)))
 takenValue at (Count n) = Neither (NotDue at)
 takenValue at (Entry e) = Neither (NotDue at)
-takenValue at End = Last (at + length (bytesOf End))
+takenValue at End = Last
 
 abbrev pub takenOf : FieldRead → Taken
 takenOf (Got f) = takenValue (f .at) (f .value)
@@ -81,7 +78,7 @@ pub data Fields : Type 0 where
 
 abbrev pub follow : ℕ → Taken → (ℕ → Fields) → Fields
 follow at (OneNode d next) more = nodeAt at d (more next)
-follow at (Last next) more = endAt next
+follow at Last more = endAt (at + length (bytesOf End))
 follow at (Neither r) more = wrong r
 
 -- k fields from a place on. Node 1,025 is never admitted, so 1,025 are enough
@@ -134,7 +131,7 @@ fromFront s (NotFound r) = refused r
 
 -- what the bytes of a net file say
 unfoldable pub netOf : List ℕ → Outcome
-netOf s = fromFront s (frontOf (fieldAt s 0))
+netOf s = fromFront s (frontOf (dueAt 1 s 0))
 
 -- ---- what the reader answers, and leaves in the lent columns
 

@@ -1,10 +1,9 @@
 -- What the reader's own functions ask and say of the columns that it keeps for itself until all is judged.
-use Prim.Native.Nat.{ℕ, zero, suc, _≤_}
+use Prim.Native.Nat.{ℕ, _≤_}
 use mathlib.Core.Path.{_≡_}
-use mathlib.Core.List.{List, [], _∷_}
+use mathlib.Core.List.{List}
 use lib.ListN.{length, replicate}
 use Rattle.net.specs.declared.Limits.{Limits}
-use Rattle.net.specs.declared.Node.{Node}
 use Rattle.net.specs.Figures.{mostPlaces}
 use Rattle.net.specs.Net.{Net, net, places}
 use Rattle.net.specs.Counted.{unlimited}
@@ -16,11 +15,6 @@ use Rattle.net_file.specs.NetFile.{Outcome, read, refused, nodesOf, colu
 abbrev pub tells : Outcome → NetRead
 tells (read n) = Read (n .limits) (places n)
 tells (refused r) = NotRead r
-
--- k nodes from node i on
-unfoldable pub listed : (ℕ → Node) → ℕ → ℕ → List Node
-listed nodes zero i = []
-listed nodes (suc k) i = nodes i ∷ listed nodes k (suc i)
 
 -- the reader's own columns before it reads
 abbrev pub blank : Net

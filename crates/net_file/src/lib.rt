@@ -8,13 +8,14 @@ ghost use lib.Seq.{sets};
 ghost use Rattle.net.specs.Net.{netAt, node};
 ghost use Rattle.net.specs.Judge.{unless, thenJudge, childedBy};
 ghost use Rattle.net.specs.Counted.{unlimited, Within, Level};
-ghost use Rattle.field.specs.Format.{fieldAt, bytesOf};
-ghost use Rattle.net_file.specs.NetFile.{cutAt, frontValue, frontOf, nodeDue, takenValue, takenAt, netFrom, netOf, columnsOf, laidOver, ReadNet, fieldOf, netBytes, WroteNet};
-ghost use Rattle.net_file.specs.Own.{blank, listed, Room, JudgedFile};
+ghost use Rattle.field.specs.Format.{cutAt, dueAt};
+ghost use Rattle.field.specs.Listed.{listed};
+ghost use Rattle.net_file.specs.NetFile.{frontValue, frontOf, nodeDue, takenValue, takenAt, netFrom, netOf, columnsOf, laidOver, ReadNet, fieldOf, netBytes, WroteNet};
+ghost use Rattle.net_file.specs.Own.{blank, Room, JudgedFile};
+use field::DueRead;
 use field::Field;
 use field::FieldRead;
 use field::Value;
-use field::Wrote;
 use net::Judged;
 use net::Limits;
 use net::Node;
@@ -26,10 +27,10 @@ pub enum Front {
     Refused(Refusal),
 }
 
-// What stands at a later place: a node or the end, with the place after it, or neither.
+// What stands at a later place: a node, with the place after it, the end, or neither.
 pub enum Taken {
     Node(Node, usize),
-    End(usize),
+    End,
     Refused(Refusal),
 }
 
@@ -71,13 +72,12 @@ fn front_of(f: Field) -> Front
 
 // The limits at the front of a file.
 fn read_front(s: &[u8]) -> Front
-    ensures { λ r. ⌜ r ≡ frontOf (fieldAt (now (s .entry)) 0) ⌝ }
+    ensures { λ r. ⌜ r ≡ frontOf (dueAt 1 (now (s .entry)) 0) ⌝ }
 {
-    let got = field::read_field(s, 0);
+    let got = field::read_due(s, 0, 1);
     match got {
-        FieldRead::Got(f) => front_of(f),
-        FieldRead::Cut { tag, place } => Front::Refused(cut(tag == 1, place)),
-        FieldRead::Refused(r) => Front::Refused(r),
+        DueRead::Got(f) => front_of(f),
+        DueRead::Refused(r) => Front::Refused(r),
     }
 }
 
@@ -127,7 +127,7 @@ fn taken_of(f: Field) -> Taken
         );
     }
     if let Value::End = value {
-        return Taken::End(at + 3);
+        return Taken::End;
     }
     Taken::Refused(Refusal::NotDue(at))
 }
@@ -204,8 +204,8 @@ fn judge_fields(
                 i += 1;
                 at = next;
             }
-            Taken::End(next) => {
-                let end = finish(s, next, kind, &counts, i);
+            Taken::End => {
+                let end = finish(s, at + 3, kind, &counts, i);
                 if let Judged::Refused(r) = end {
                     return NetRead::Refused(r);
                 }
@@ -364,18 +364,6 @@ fn net_size(parent: &[u16], wire: &[u32], kind: &[u8], pin: &[u32], polarity: &[
     size
 }
 
-// A field at the front of what is lent, which has room for it.
-fn put_field(out: &mut [u8], v: Value) -> usize
-    requires { ⌜ length (bytesOf v) ≤ length (now out) ⌝ }
-    ensures { λ r. ⌜ (r ≡ length (bytesOf v)) × (now (out .exit) ≡ sets (now (out .entry)) 0 (bytesOf v)) ⌝ }
-{
-    let wrote = field::write_field(out, v);
-    let Wrote::Bytes(size) = wrote else {
-        return 0;
-    };
-    size
-}
-
 // Each field goes into the part of the buffer that begins where the last one ended.
 fn put_fields(
     l: Limits,
@@ -389,14 +377,17 @@ fn put_fields(
     requires { ⌜ Level (netAt unlimited parent wire kind pin polarity) × (length (netBytes (netAt l parent wire kind pin polarity)) ≤ length (now out)) ⌝ }
     ensures { λ _. ⌜ now (out .exit) ≡ sets (now (out .entry)) 0 (netBytes (netAt l (parent .entry) (wire .entry) (kind .entry) (pin .entry) (polarity .entry))) ⌝ }
 {
-    let mut at = put_field(out, Value::Limits(l));
+    field::write_field(out, Value::Limits(l));
+    let mut at: usize = 12;
     let mut i: usize = 1;
     while i < parent.len() {
         let d = net::node_at(parent, wire, kind, pin, polarity, i);
-        at += put_field(&mut out[at..], value_of(d));
+        let v = value_of(d);
+        field::write_field(&mut out[at..], v);
+        at += field::size(v);
         i += 1;
     }
-    put_field(&mut out[at..], Value::End);
+    field::write_field(&mut out[at..], Value::End);
 }
 
 // Writes a net's file: judges the net, then the room, and then fills the buffer.

@@ -12,8 +12,9 @@ use Rattle.net.specs.declared.Refusal.{Refusal}
 use Rattle.net.specs.declared.Refusal.the-variants.{NoRoom}
 use Rattle.net.specs.declared.Judged.the-variants.{Sound, Refused as Unsound}
 use Rattle.placement_file.specs.declared.PlacementRead.the-variants.{Read, Refused}
-use Rattle.placement_file.specs.File.{owed, entryAt, fileJudged, listed, placementOf, wire, offset, ReadAs}
-use Rattle.placement_file.proofs.Listing.{length-listed}
+use Rattle.field.specs.Listed.{listed}
+use Rattle.placement_file.specs.File.{owed, entryAt, fileJudged, placementOf, wire, offset, ReadAs}
+use Rattle.field.proofs.Listing.{length-listed}
 
 module _ (s : List ℕ) {vs os : List ℕ} where
   pub read-refused : {r : Refusal} → fileJudged s ≡ Unsound r → ReadAs (placementOf s) vs os vs os (Refused r)

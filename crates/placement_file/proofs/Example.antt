@@ -7,7 +7,8 @@ use Rattle.net.specs.Judge.{judgeEach}
 use Rattle.net.specs.declared.Refusal.the-variants.{FileEnds, NotDue, OutOfRange, BytesAfterEnd}
 use Rattle.net.specs.declared.Entry.{Entry}
 use Rattle.field.specs.Format.{fieldIn}
-use Rattle.placement_file.specs.File.{owed, countJudged, entryAt, entryJudged, endJudged, bodyJudged, fileJudged, listed, placement, refused, placementOf, entriesBytes, placementBytes}
+use Rattle.field.specs.Listed.{listed}
+use Rattle.placement_file.specs.File.{owed, countJudged, entryAt, entryJudged, endJudged, bodyJudged, fileJudged, placement, refused, placementOf, entriesBytes, placementBytes}
 
 abbrev at : ℕ → ℕ → Entry
 at v o = record { wire = v; offset = o }

@@ -7,8 +7,8 @@ use mathlib.Core.List.{List, map}
 use lib.ListN.{length, set, length-set}
 use lib.Seq.{sets}
 use Rattle.net.specs.declared.Entry.{Entry}
-use Rattle.placement_file.specs.File.{listed}
-use Rattle.placement_file.proofs.Listing.{listed-next, listed-end}
+use Rattle.field.specs.Listed.{listed}
+use Rattle.field.proofs.Listing.{listed-next, listed-end}
 
 pub record Column (f : Entry → ℕ) (g : ℕ → Entry) (n : ℕ) (col₀ col : List ℕ) (i : ℕ) : Type 0 where
   pub kept : length col ≡ length col₀

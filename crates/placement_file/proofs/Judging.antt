@@ -15,8 +15,8 @@ use Rattle.net.specs.declared.Refusal.the-variants.{OutOfRange, WrongColumns}
 use Rattle.net.specs.declared.Judged.{Judged}
 use Rattle.net.specs.declared.Judged.the-variants.{Sound, Refused}
 use Rattle.net.proofs.Tests.{both-met, then-met, unless-met}
-use Rattle.field.specs.Format.{fieldAt}
-use Rattle.field.specs.declared.FieldRead.{FieldRead}
+use Rattle.field.specs.Format.{dueAt}
+use Rattle.field.specs.declared.DueRead.{DueRead}
 use Rattle.placement_file.specs.File.{due, entryIn, entryInRange, owed, countJudged, startOf, entryAt, entryJudged, bodyJudged, fileJudged, columnEntry, rangeJudged, rangesJudged, columnsJudged}
 
 pub then-stop : {a x : Judged} (b : Judged) (r : Refusal) → x ≡ Refused r → x ≡ a → x ≡ thenJudge a b
@@ -28,11 +28,11 @@ then-on {b = b} e h = h ∙ ap (λ (j : Judged). thenJudge j b) e
 pub few : (s : List ℕ) → countJudged s ≡ Sound → owed s ≤ mostEntries
 unfolding countJudged
 few s e =
-    let (d, u) = then-met (due 17 (fieldAt s 0)) (unless (leb (owed s) mostEntries) (OutOfRange 0)) e in
+    let (d, u) = then-met (due (dueAt 17 s 0)) (unless (leb (owed s) mostEntries) (OutOfRange 0)) e in
     leb-true (owed s) mostEntries (unless-met (leb (owed s) mostEntries) (OutOfRange 0) u)
 
-pub entry-is : (s : List ℕ) (i : ℕ) {read : FieldRead} {e : Entry} {ok : Bool} {ranged here r : Judged}
-    → read ≡ fieldAt s (startOf i) → e ≡ entryIn read → ok ≡ entryInRange e → ranged ≡ unless ok (OutOfRange (startOf i)) → here ≡ due 18 read → r ≡ thenJudge here ranged
+pub entry-is : (s : List ℕ) (i : ℕ) {read : DueRead} {e : Entry} {ok : Bool} {ranged here r : Judged}
+    → read ≡ dueAt 18 s (startOf i) → e ≡ entryIn read → ok ≡ entryInRange e → ranged ≡ unless ok (OutOfRange (startOf i)) → here ≡ due read → r ≡ thenJudge here ranged
     → r ≡ entryJudged s i
 unfolding entryJudged entryAt
 entry-is s i a b c d e f = f ∙ rw (e, d, c, b, a)

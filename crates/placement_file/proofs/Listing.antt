@@ -1,30 +1,14 @@
--- Entries listed from entry i on: one more, none left, and how many; the columns' entries are such a list.
-use Prim.Native.Nat.{ℕ, zero, suc, _+_, _-_, _<_, _≤_}
+-- The columns' entries are a list of entries by their numbers.
+use Prim.Native.Nat.{ℕ, zero, suc}
 use native.Mathlib.Omega.{arith}
-use native.Mathlib.Numerals.{add-one}
 use mathlib.Core.Path.{_≡_, refl, sym, ap, _∙_}
 use mathlib.Core.List.{List, [], _∷_}
 use lib.ListN.{length}
 use Rattle.net.specs.Load.{entries}
 use Rattle.net.specs.declared.Entry.{Entry}
-use Rattle.placement_file.specs.File.{listed, columnEntry}
-
-module _ (g : ℕ → Entry) where
-  pub listed-next : {n i : ℕ} → i < n → listed g (n - i) i ≡ g i ∷ listed g (n - (i + 1)) (i + 1)
-  unfolding listed
-  listed-next {n} {i} h =
-      let e : n - i ≡ suc (n - suc i) = omega arith in
-      let f : n - suc i ≡ n - (i + 1) = omega arith in
-      rw (e, f, add-one)
-
-  pub listed-end : {n i : ℕ} → n ≤ i → listed g (n - i) i ≡ []
-  unfolding listed
-  listed-end {n} {i} h = let e : n - i ≡ 0 = omega arith in rw e
-
-  pub length-listed : (k i : ℕ) → length (listed g k i) ≡ k
-  unfolding listed
-  length-listed zero i = refl
-  length-listed (suc k) i = ap suc (length-listed k (suc i))
+use Rattle.field.specs.Listed.{listed}
+use Rattle.field.proofs.Listing.{length-listed}
+use Rattle.placement_file.specs.File.{columnEntry}
 
 later : (v o : ℕ) (vs os : List ℕ) (k i : ℕ) → listed (columnEntry (v ∷ vs) (o ∷ os)) k (suc i) ≡ listed (columnEntry vs os) k i
 unfolding listed

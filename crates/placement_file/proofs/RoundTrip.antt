@@ -6,79 +6,67 @@ use native.Mathlib.Omega.{arith}
 use mathlib.Core.Path.{_≡_, refl, sym, ap, subst, _∙_}
 use mathlib.Core.List.{List, [], _∷_, _++_, map}
 use mathlib.Core.Bool.{Bool, true}
-use lib.ListN.{length, take, drop, length-drop, take-append-drop, drop-of-length-le}
-use lib.Seq.{drop-drop, drop-at}
-use lib.Dec.{ltb, leb, eqb}
-use borrow.Author.Tests.{leb-true, le-leb, eqb-true, eq-eqb}
+use lib.ListN.{length, drop, length-drop, length-map, drop-of-length-le}
+use lib.Dec.{ltb, leb}
+use borrow.Author.Tests.{leb-true, le-leb, eq-eqb}
 use Rattle.net.specs.Figures.{mostNodes, mostWire, mostEntries}
 use Rattle.net.specs.Choose.{pick, both}
 use Rattle.net.specs.Judge.{unless, judgeEach}
 use Rattle.net.specs.Load.{entries}
 use Rattle.net.specs.Checked.{placementFits}
 use Rattle.net.specs.declared.Entry.{Entry}
-use Rattle.net.specs.declared.Refusal.the-variants.{NotDue, OutOfRange, BytesAfterEnd}
+use Rattle.net.specs.declared.Refusal.the-variants.{OutOfRange, BytesAfterEnd}
 use Rattle.net.specs.declared.Judged.{Judged}
 use Rattle.net.specs.declared.Judged.the-variants.{Sound, Refused as Unsound}
-use Rattle.net.proofs.Tests.{both-met, both-true, then-met, unless-met}
+use Rattle.net.proofs.Tests.{never, both-met, both-true, then-met, unless-met}
 use Rattle.net.proofs.Each.{each-met, each-sound}
-use Rattle.field.specs.Format.{tagOf, numbersOf, valueOf, fieldIn, fieldAt, bytesOf, Fitting}
+use Rattle.field.specs.Format.{tagOf, numbersOf, valueOf, fieldAt, dueIn, dueAt, bytesOf, Fitting}
 use Rattle.field.specs.declared.Value.{Value}
-use Rattle.field.specs.declared.Value.the-variants.{Limits, Branch, Sink, Count, Entry as AnEntry, End}
+use Rattle.field.specs.declared.Value.the-variants.{Count, Entry as AnEntry, End}
 use Rattle.field.specs.declared.Field.{Field}
 use Rattle.field.specs.declared.FieldRead.{FieldRead}
-use Rattle.field.specs.declared.FieldRead.the-variants.{Got, Cut, Refused as NoField}
+use Rattle.field.specs.declared.FieldRead.the-variants.{Got}
+use Rattle.field.specs.declared.DueRead.{DueRead}
+use Rattle.field.specs.declared.DueRead.the-variants.{Got as Due, Refused as Missing}
 use Rattle.field.proofs.Numbers.{AreBytes}
-use Rattle.field.proofs.RoundTrip.{read-written, written-read}
-use Rattle.placement_file.specs.File.{due, numbersIn, countIn, entryIn, entryInRange, owed, countJudged, startOf, entryAt, entryJudged, endJudged, bodyJudged, fileJudged, wire, offset, listed, placement, outcome, placementOf, columnEntry, rangeJudged, rangesJudged, columnsJudged, columnsOf, entriesBytes, placementBytes}
+use Rattle.field.proofs.Due.{found}
+use Rattle.field.proofs.RoundTrip.{shape, after, field-back, begins}
+use Rattle.field.specs.Listed.{listed}
+use Rattle.placement_file.specs.File.{due, numbersIn, countIn, entryIn, entryInRange, owed, countJudged, startOf, entryAt, entryJudged, endJudged, bodyJudged, fileJudged, wire, offset, placement, outcome, placementOf, columnEntry, rangeJudged, rangesJudged, columnsJudged, columnsOf, entriesBytes, placementBytes}
 use Rattle.placement_file.proofs.Judging.{sound-few, sound-columns, fits}
-use Rattle.placement_file.proofs.Listing.{length-listed, entries-listed, length-entries}
-
-pub never : {A : Type 0} → _≡_ {A = ℕ} 0 1 → A
-never z = absurd (omega arith)
+use Rattle.field.proofs.Listing.{length-listed}
+use Rattle.placement_file.proofs.Listing.{entries-listed, length-entries}
 
 -- ---- a file that is read
 
--- a value is made again from its tag and its numbers
-again : (v : Value) → v ≡ valueOf (tagOf v) (numbersOf v)
-again (Limits l) = refl
-again (Branch p w) = refl
-again (Sink p w c q) = refl
-again (Count n) = refl
-again (AnEntry e) = refl
-again End = refl
-
 -- where a tag is due and stands, the field is made of its numbers
-met : (tag : ℕ) (r : FieldRead) → due tag r ≡ Sound → (f : Field) × (r ≡ Got f) × (f .value ≡ valueOf tag (numbersIn tag r))
-met tag (Got f) e =
-    let t = unless-met (eqb (tagOf (f .value)) tag) (NotDue (f .at)) e in
-    let q : tagOf (f .value) ≡ tag = eqb-true (tagOf (f .value)) tag t in
-    (f, refl, again (f .value) ∙ ap (λ (x : ℕ). valueOf x (numbersOf (f .value))) q ∙ ap (λ (b : Bool). valueOf tag (pick b (numbersOf (f .value)) [])) (sym t))
-met tag (Cut t place) e = never (cc)
-met tag (NoField r) e = never (cc)
+met : (tag : ℕ) (r : FieldRead) (d : DueRead) → dueIn tag r ≡ d → due d ≡ Sound → (f : Field) × (r ≡ Got f) × (f .value ≡ valueOf tag (numbersIn tag d))
+met tag r (Due f) q e =
+    let (got, t) = found tag r q in
+    (f, got, shape (f .value) .0 ∙ ap (λ (x : ℕ). valueOf x (numbersOf (f .value))) t ∙ ap (λ (b : Bool). valueOf tag (pick b (numbersOf (f .value)) [])) (sym (eq-eqb (tagOf (f .value)) tag t)))
+met tag r (Missing x) q e = never (cc)
 
 -- the bytes from a place on are a field's and those after it
 abbrev Front : List ℕ → ℕ → Value → Type 0
 Front s at v = drop at s ≡ bytesOf v ++ drop (at + length (bytesOf v)) s
 
 module _ (s : List ℕ) (by : AreBytes s) where
-  front : (at tag : ℕ) → due tag (fieldAt s at) ≡ Sound → Front s at (valueOf tag (numbersIn tag (fieldAt s at)))
+  front : (at tag : ℕ) → due (dueAt tag s at) ≡ Sound → Front s at (valueOf tag (numbersIn tag (dueAt tag s at)))
   front at tag e =
-      let (f, got, same) = met tag (fieldAt s at) e in
-      let bs = bytesOf (f .value) in
-      let split : take (length bs) (drop at s) ++ drop (length bs) (drop at s) ≡ drop at s = take-append-drop (length bs) (drop at s) in
-      subst (Front s at) same (sym split ∙ rw (written-read s at f by got .bytes, drop-drop (length bs) at s))
+      let (f, got, same) = met tag (fieldAt s at) (dueAt tag s at) refl e in
+      begins s by at f (valueOf tag (numbersIn tag (dueAt tag s at))) got same
 
   entry-front : (i : ℕ) → entryJudged s i ≡ Sound → drop (startOf i) s ≡ bytesOf (AnEntry (entryAt s i)) ++ drop (startOf (suc i)) s
   unfolding entryJudged entryAt
   entry-front i e =
-      let (d, _) = then-met (due 18 (fieldAt s (startOf i))) (unless (entryInRange (entryAt s i)) (OutOfRange (startOf i))) e in
+      let (d, _) = then-met (due (dueAt 18 s (startOf i))) (unless (entryInRange (entryAt s i)) (OutOfRange (startOf i))) e in
       let n : startOf i + 9 ≡ startOf (suc i) = omega arith in
       front (startOf i) 18 d ∙ ap (λ (k : ℕ). bytesOf (AnEntry (entryAt s i)) ++ drop k s) n
 
   end-front : (at : ℕ) → endJudged s at ≡ Sound → drop at s ≡ bytesOf End
   unfolding endJudged
   end-front at e =
-      let (d, u) = then-met (due 127 (fieldAt s at)) (unless (leb (length s) (at + 3)) (BytesAfterEnd (at + 3))) e in
+      let (d, u) = then-met (due (dueAt 127 s at)) (unless (leb (length s) (at + 3)) (BytesAfterEnd (at + 3))) e in
       let n : length s ≤ at + 3 = leb-true (length s) (at + 3) (unless-met _ (BytesAfterEnd (at + 3)) u) in
       front at 127 d ∙ ap (λ (r : List ℕ). bytesOf End ++ r) (drop-of-length-le s n)
 
@@ -103,7 +91,7 @@ listed-ranged g (suc k) i h = (h i (omega arith) (omega arith), listed-ranged g 
 entry-ranged : (s : List ℕ) (i : ℕ) → entryJudged s i ≡ Sound → entryInRange (entryAt s i) ≡ true
 unfolding entryJudged
 entry-ranged s i e =
-    let (_, u) = then-met (due 18 (fieldAt s (startOf i))) (unless (entryInRange (entryAt s i)) (OutOfRange (startOf i))) e in
+    let (_, u) = then-met (due (dueAt 18 s (startOf i))) (unless (entryInRange (entryAt s i)) (OutOfRange (startOf i))) e in
     unless-met _ (OutOfRange (startOf i)) u
 
 -- entries that a file can hold
@@ -122,7 +110,7 @@ file-bytes s es by e =
     let (sound, q) = told (fileJudged s) (listed (entryAt s) (owed s) 0) es e in
     let (count, body) = then-met (countJudged s) (bodyJudged s (owed s)) sound in
     let (each, last) = then-met (judgeEach (entryJudged s) (owed s) 0) (endJudged s (startOf (owed s))) body in
-    let (d, _) = then-met (due 17 (fieldAt s 0)) (unless (leb (owed s) mostEntries) (OutOfRange 0)) count in
+    let (d, _) = then-met (due (dueAt 17 s 0)) (unless (leb (owed s) mostEntries) (OutOfRange 0)) count in
     let n : length es ≡ owed s = ap length (sym q) ∙ length-listed (entryAt s) (owed s) 0 in
     let z : 0 + owed s ≡ owed s = omega arith in (
       record { few = omega (arith, sound-few s sound); ranged = subst Ranged q (listed-ranged (entryAt s) (owed s) 0 (λ j lo hi. entry-ranged s j (each-met (entryJudged s) (owed s) 0 each j lo hi))) },
@@ -130,10 +118,6 @@ file-bytes s es by e =
     )
 
 -- ---- the columns of such entries
-
-pub length-map : (f : Entry → ℕ) (es : List Entry) → length (map f es) ≡ length es
-length-map f [] = refl
-length-map f (e ∷ es) = ap suc (length-map f es)
 
 pub entries-back : (es : List Entry) → entries (map wire es) (map offset es) ≡ es
 unfolding entries
@@ -150,8 +134,8 @@ unfolding columnsOf columnsJudged rangeJudged
 columns-back es p =
     let vs = map wire es in
     let os = map offset es in
-    let n : length vs ≡ length es = length-map wire es in
-    let m : length os ≡ length es = length-map offset es in
+    let n : length vs ≡ length es = length-map es wire in
+    let m : length os ≡ length es = length-map es offset in
     let level : placementFits vs os ≡ true = both-true (eq-eqb (length os) (length vs) (omega arith)) (le-leb (length vs) mostEntries (omega (arith, p .few))) in
     let each : rangesJudged vs os ≡ Sound = each-sound (rangeJudged vs os) (length vs) 0 (λ j lo hi. rw (at-each es (p .ranged) j (omega arith))) in
     rw (level, each, entries-back es)
@@ -188,26 +172,19 @@ entry-fits e h =
     (omega arith, (omega arith, tt))
 
 module _ (s : List ℕ) where
-  -- a field whose bytes begin what is left
-  got-at : (at : ℕ) (v : Value) (rest : List ℕ) → Fitting v → drop at s ≡ bytesOf v ++ rest → (fieldAt s at ≡ Got (record { at = at; value = v })) × (drop (at + length (bytesOf v)) s ≡ rest)
-  got-at at v rest h e = (
-    ap (fieldIn at) e ∙ read-written at v rest h,
-    sym (drop-drop (length (bytesOf v)) at s) ∙ ap (drop (length (bytesOf v))) e ∙ drop-at (bytesOf v) rest (length (bytesOf v)) refl,
-  )
-
   body-back : (es : List Entry) (i : ℕ) → Ranged es → drop (startOf i) s ≡ entriesBytes es
       → (judgeEach (entryJudged s) (length es) i ≡ Sound) × (endJudged s (startOf (i + length es)) ≡ Sound) × (listed (entryAt s) (length es) i ≡ es)
   unfolding judgeEach listed entriesBytes entryJudged entryAt endJudged
   body-back [] i h e =
-      let (got, _) = got-at (startOf i) End [] tt e in
+      let got = field-back s (startOf i) End [] tt e in
       let n : length s - startOf i ≡ 3 = sym (length-drop (startOf i) s) ∙ ap length e in
       let short : leb (length s) (startOf i + 3) ≡ true = le-leb (length s) (startOf i + 3) (omega arith) in
       (refl, rw (add-zero, got, short), refl)
   body-back (x ∷ es) i h e =
-      let (got, rest) = got-at (startOf i) (AnEntry x) (entriesBytes es) (entry-fits x (h .0)) e in
+      let got = field-back s (startOf i) (AnEntry x) (entriesBytes es) (entry-fits x (h .0)) e in
       let next : startOf i + 9 ≡ startOf (suc i) = omega arith in
-      let (each, last, others) = body-back es (suc i) (h .1) (ap (λ (k : ℕ). drop k s) (sym next) ∙ rest) in
-      let here : entryAt s i ≡ x = ap entryIn got in
+      let (each, last, others) = body-back es (suc i) (h .1) (ap (λ (k : ℕ). drop k s) (sym next) ∙ after s (bytesOf (AnEntry x)) (entriesBytes es) (startOf i) e) in
+      let here : entryAt s i ≡ x = ap (λ (r : FieldRead). entryIn (dueIn 18 r)) got in
       let n : suc i + length es ≡ i + suc (length es) = omega arith in
       let sound : entryJudged s i ≡ Sound = rw (got, h .0) in
       (rw sound each, rw n at last, ap (λ (r : List Entry). entryAt s i ∷ r) others ∙ ap (λ (y : Entry). y ∷ es) here)
@@ -217,9 +194,9 @@ pub bytes-file : (es : List Entry) → Placed es → placementOf (placementBytes
 unfolding placementOf fileJudged bodyJudged countJudged owed placementBytes
 bytes-file es p =
     let s = placementBytes es in
-    let (got, rest) = got-at s 0 (Count (length es)) (entriesBytes es) (omega (arith, p .few), tt) refl in
-    let n : owed s ≡ length es = ap countIn got in
-    let (each, last, all) = body-back s es 0 (p .ranged) rest in
+    let got = field-back s 0 (Count (length es)) (entriesBytes es) (omega (arith, p .few), tt) refl in
+    let n : owed s ≡ length es = ap (λ (r : FieldRead). countIn (dueIn 17 r)) got in
+    let (each, last, all) = body-back s es 0 (p .ranged) (after s (bytesOf (Count (length es))) (entriesBytes es) 0 refl) in
     let few : leb (length es) mostEntries ≡ true = le-leb (length es) mostEntries (p .few) in
     let z : 0 + length es ≡ length es = omega arith in
     let sound : bodyJudged s (length es) ≡ Sound = rw each (rw z at last) in

@@ -4,12 +4,13 @@ use native.Mathlib.Omega.{arith}
 use mathlib.Core.Path.{_≡_, refl, sym, ap, _∙_}
 use mathlib.Core.List.{List, map}
 use mathlib.Core.Bool.{Bool, true, false}
-use lib.ListN.{length, take}
+use lib.ListN.{length, length-map, take}
 use lib.Seq.{sets, sets-eq, take-at}
 use lib.Dec.{ltb}
 use borrow.Author.Tests.{ltb-false, le-ltb}
 use Rattle.net.specs.Choose.{pick}
 use Rattle.net.specs.declared.Entry.{Entry}
+use Rattle.net.proofs.Tests.{never}
 use Rattle.net.proofs.Refusals.{numbered}
 use Rattle.field.specs.Format.{wroteNumber, wroteCount}
 use Rattle.field.specs.declared.Wrote.{Wrote}
@@ -18,7 +19,7 @@ use Rattle.field.proofs.Numbers.{AreBytes}
 use Rattle.placement_file.specs.declared.PlacementRead.{PlacementRead}
 use Rattle.placement_file.specs.declared.PlacementRead.the-variants.{Read, Refused}
 use Rattle.placement_file.specs.File.{wire, offset, Outcome, placement, refused, placementOf, columnsOf, answer, ReadAs, readNumber, readCount, placementBytes, written, WroteAs}
-use Rattle.placement_file.proofs.RoundTrip.{never, length-map, file-bytes, bytes-file, columns-back, columns-placed}
+use Rattle.placement_file.proofs.RoundTrip.{file-bytes, bytes-file, columns-back, columns-placed}
 
 pub read-zero : (r : PlacementRead) → readNumber r ≡ 0 → r ≡ Read (readCount r)
 read-zero (Read n) e = refl
@@ -69,8 +70,8 @@ read-then-written s vs os out {vs′} {os′} {out′} {r} {w} by a zero b room 
     let (es, is, most, n) = read-entries (min (length vs) (length os)) (readCount r) (placementOf s) (sym (read-zero r zero) ∙ a .answered) in
     let (placed, same) = file-bytes s es by is in
     let (_, filled-vs, filled-os) = read-as is a most in
-    let lv : length (map wire es) ≡ length es = length-map wire es in
-    let lo : length (map offset es) ≡ length es = length-map offset es in
+    let lv : length (map wire es) ≡ length es = length-map es wire in
+    let lo : length (map offset es) ≡ length es = length-map es offset in
     let back-vs : take (readCount r) vs′ ≡ map wire es = stored vs (map wire es) filled-vs (n ∙ sym lv) (omega arith) in
     let back-os : take (readCount r) os′ ≡ map offset es = stored os (map offset es) filled-os (n ∙ sym lo) (omega arith) in
     rw same (wrote-as (rw (back-vs, back-os) (columns-back es placed)) b (rw same at room))
@@ -84,6 +85,6 @@ written-then-read vs os out ws fs {out′} {ws′} {fs′} {w} {r} a zero b room
     let (placed, of-vs, of-os) = columns-placed vs os es is in
     let (_, laid-out) = wrote-as is a most in
     let back : take (wroteCount w) out′ ≡ placementBytes es = stored out (placementBytes es) laid-out n most in
-    let lv : length vs ≡ length es = ap length of-vs ∙ length-map wire es in
+    let lv : length vs ≡ length es = ap length of-vs ∙ length-map es wire in
     let (answered, of-ws, of-fs) = read-as (ap placementOf back ∙ bytes-file es placed) b (rw lv at room) in
     (answered ∙ ap Read (sym lv), of-ws ∙ ap (sets ws 0) (sym of-vs), of-fs ∙ ap (sets fs 0) (sym of-os))

@@ -8,21 +8,15 @@ use lib.Dec.{eqb}
 use types.Run.{OneOf, miss}
 use denote.Enum.Declared.{tagOf as variantOf}
 use Rattle.field.proofs.Value.{the-type}
-use Rattle.field.proofs.FieldRead.{the-type as read-type}
 use Rattle.net.specs.Choose.{pick}
 use Rattle.net.specs.declared.Entry.{Entry}
 use Rattle.field.specs.Format.{tagOf, numbersOf}
 use Rattle.field.specs.declared.Value.{Value}
 use Rattle.field.specs.declared.Value.the-variants.{Limits, Branch, Sink, Count, Entry as AnEntry, End}
 use Rattle.field.specs.declared.Field.{Field}
-use Rattle.field.specs.declared.FieldRead.{FieldRead}
-use Rattle.field.specs.declared.FieldRead.the-variants.{Got, Cut, Refused as NoField}
+use Rattle.field.specs.declared.DueRead.{DueRead}
+use Rattle.field.specs.declared.DueRead.the-variants.{Got}
 use Rattle.placement_file.specs.File.{numbersIn, countIn, entryIn}
-
-pub no-field : (tag : ℕ) (r : FieldRead) → OneOf (1 ∷ 2 ∷ []) (variantOf read-type r) → numbersIn tag r ≡ []
-no-field tag (Got f) h = absurd (miss (1 ∷ 2 ∷ []) 0 tt h)
-no-field tag (Cut t place) h = refl
-no-field tag (NoField r) h = refl
 
 not-count : (v : Value) → OneOf (0 ∷ 1 ∷ 2 ∷ 4 ∷ 5 ∷ []) (variantOf the-type v) → eqb (tagOf v) 17 ≡ false
 not-count (Limits l) h = refl
@@ -40,15 +34,15 @@ not-entry (Count n) h = refl
 not-entry (AnEntry e) h = absurd (miss (0 ∷ 1 ∷ 2 ∷ 3 ∷ 5 ∷ []) 4 tt h)
 not-entry End h = refl
 
-module _ {r : FieldRead} (f : Field) (got : r ≡ Got f) where
-  none-in : (tag : ℕ) → eqb (tagOf (f .value)) tag ≡ false → numbersIn tag r ≡ []
+module _ {d : DueRead} (f : Field) (got : d ≡ Got f) where
+  none-in : (tag : ℕ) → eqb (tagOf (f .value)) tag ≡ false → numbersIn tag d ≡ []
   none-in tag e = ap (numbersIn tag) got ∙ ap (λ (b : Bool). pick b (numbersOf (f .value)) []) e
 
-  pub other-count : OneOf (0 ∷ 1 ∷ 2 ∷ 4 ∷ 5 ∷ []) (variantOf the-type (f .value)) → 0 ≡ countIn r
+  pub other-count : OneOf (0 ∷ 1 ∷ 2 ∷ 4 ∷ 5 ∷ []) (variantOf the-type (f .value)) → 0 ≡ countIn d
   other-count h = sym (ap (λ (ns : List ℕ). getD ns 0 0) (none-in 17 (not-count (f .value) h)))
 
-  pub other-entry : OneOf (0 ∷ 1 ∷ 2 ∷ 3 ∷ 5 ∷ []) (variantOf the-type (f .value)) → record { wire = 0; offset = 0 } ≡ entryIn r
+  pub other-entry : OneOf (0 ∷ 1 ∷ 2 ∷ 3 ∷ 5 ∷ []) (variantOf the-type (f .value)) → record { wire = 0; offset = 0 } ≡ entryIn d
   other-entry h = simp (none-in 18 (not-entry (f .value) h))
 
-  pub this-entry : (e : Entry) → f .value ≡ AnEntry e → e ≡ entryIn r
+  pub this-entry : (e : Entry) → f .value ≡ AnEntry e → e ≡ entryIn d
   this-entry e h = sym (ap entryIn got ∙ rw h)

@@ -3,24 +3,24 @@ use Prim.Native.Nat.{ℕ, _+_, _-_, _*_, _<_, _≤_}
 use native.Mathlib.Omega.{arith}
 use mathlib.Core.Path.{_≡_, refl, sym, ap, _∙_}
 use mathlib.Core.List.{List, [], _∷_, _++_}
-use lib.ListN.{length, take, drop, length-append, length-take, length-drop}
+use lib.ListN.{length, length-append}
 use lib.Seq.{sets, length-sets}
-use borrow.Author.Tests.{le-ltb}
 use Rattle.net.specs.Load.{entries}
 use Rattle.net.specs.declared.Entry.{Entry}
 use Rattle.net.specs.declared.Refusal.{Refusal}
 use Rattle.net.specs.declared.Refusal.the-variants.{NoRoom}
 use Rattle.net.specs.declared.Judged.the-variants.{Sound, Refused as Unsound}
 use Rattle.net.specs.Figures.{mostEntries}
-use Rattle.field.specs.Format.{bytesOf, laid}
+use Rattle.field.specs.Format.{bytesOf}
 use Rattle.field.specs.declared.Value.the-variants.{Count, Entry as AnEntry, End}
 use Rattle.field.proofs.Numbers.{sets-append}
 use Rattle.field.specs.declared.Wrote.the-variants.{Bytes, Refused as NotWritten}
-use Rattle.field.proofs.Parts.{part-back}
 use Rattle.field.proofs.Writing.{too-little, enough}
-use Rattle.placement_file.specs.File.{listed, columnEntry, columnsJudged, columnsOf, entriesBytes, placementBytes, WroteAs}
+use Rattle.field.specs.Listed.{listed}
+use Rattle.placement_file.specs.File.{columnEntry, columnsJudged, columnsOf, entriesBytes, placementBytes, WroteAs}
 use Rattle.placement_file.proofs.Judging.{fits, sound-columns}
-use Rattle.placement_file.proofs.Listing.{listed-next, listed-end, entries-listed, length-entries}
+use Rattle.field.proofs.Listing.{listed-next, listed-end}
+use Rattle.placement_file.proofs.Listing.{entries-listed, length-entries}
 
 length-body : (es : List Entry) → length (entriesBytes es) ≡ 3 + 9 * length es
 unfolding entriesBytes
@@ -30,14 +30,6 @@ length-body (e ∷ es) = simp (length-append, length-body es) (omega arith)
 pub length-bytes : (es : List Entry) → length (placementBytes es) ≡ 8 + 9 * length es
 unfolding placementBytes
 length-bytes es = simp (length-append, length-body es) (omega arith)
-
--- bytes laid in the part from a place on
-pub put-back : (out bs : List ℕ) (at : ℕ) {part : List ℕ} → at + length bs ≤ length out → part ≡ laid bs (take (length out - at) (drop at out))
-    → take at out ++ (part ++ drop (length out - at) (drop at out)) ≡ sets out at bs
-put-back out bs at h e =
-    let n : length (take (length out - at) (drop at out)) ≡ length out - at = simp (length-take, length-drop) (omega arith) in
-    let b : laid bs (take (length out - at) (drop at out)) ≡ sets (take (length out - at) (drop at out)) 0 bs = simp (le-ltb (length (take (length out - at) (drop at out))) (length bs) (omega arith)) in
-    ap (λ (p : List ℕ). take at out ++ (p ++ drop (length out - at) (drop at out))) (e ∙ b) ∙ part-back out bs at (omega arith)
 
 -- the writer's loop: what is still to be written decides what the buffer is to hold
 pub record Putting (vs os out₀ out : List ℕ) (at i : ℕ) : Type 0 where

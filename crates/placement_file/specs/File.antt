@@ -1,5 +1,5 @@
 -- Document 01, "Files": what a placement file says, what two columns say, and what the reader and the writer answer and leave.
-use Prim.Native.Nat.{ℕ, zero, suc, _+_, _*_, min}
+use Prim.Native.Nat.{ℕ, _+_, _*_, min}
 use mathlib.Core.Path.{_≡_}
 use mathlib.Core.List.{List, [], _∷_, _++_, map}
 use mathlib.Core.Bool.{Bool}
@@ -14,13 +14,14 @@ use Rattle.net.specs.Load.{entries}
 use Rattle.net.specs.Checked.{placementFits}
 use Rattle.net.specs.declared.Entry.{Entry}
 use Rattle.net.specs.declared.Refusal.{Refusal}
-use Rattle.net.specs.declared.Refusal.the-variants.{FileEnds, NotDue, OutOfRange, BytesAfterEnd, WrongColumns, NoRoom}
+use Rattle.net.specs.declared.Refusal.the-variants.{OutOfRange, BytesAfterEnd, WrongColumns, NoRoom}
 use Rattle.net.specs.declared.Judged.{Judged}
 use Rattle.net.specs.declared.Judged.the-variants.{Sound, Refused as Unsound}
-use Rattle.field.specs.Format.{tagOf, numbersOf, fieldAt, bytesOf, wrote, laid}
+use Rattle.field.specs.Listed.{listed}
+use Rattle.field.specs.Format.{tagOf, numbersOf, dueAt, bytesOf, wrote, laid}
 use Rattle.field.specs.declared.Value.the-variants.{Count, Entry as AnEntry, End}
-use Rattle.field.specs.declared.FieldRead.{FieldRead}
-use Rattle.field.specs.declared.FieldRead.the-variants.{Got, Cut, Refused as NoField}
+use Rattle.field.specs.declared.DueRead.{DueRead}
+use Rattle.field.specs.declared.DueRead.the-variants.{Got, Refused as Missing}
 use Rattle.field.specs.declared.Wrote.{Wrote}
 use Rattle.field.specs.declared.Wrote.the-variants.{Refused as NotWritten}
 use Rattle.placement_file.specs.declared.PlacementRead.{PlacementRead}
@@ -28,23 +29,21 @@ use Rattle.placement_file.specs.declared.PlacementRead.the-variants.{Rea
 
 -- ---- one field
 
--- a field of this tag is due: "a short header 1, then 2, then a short body 1"
-abbrev pub due : ℕ → FieldRead → Judged
-due tag (Got f) = unless (eqb (tagOf (f .value)) tag) (NotDue (f .at))
-due tag (Cut t place) = Unsound (pick (eqb t tag) (FileEnds place) (NotDue place))
-due tag (NoField r) = Unsound r
+-- a field was due, and was found or not
+abbrev pub due : DueRead → Judged
+due (Got f) = Sound
+due (Missing r) = Unsound r
 
--- the numbers in it; none where another stands
-abbrev pub numbersIn : ℕ → FieldRead → List ℕ
+-- the numbers in a field of this tag; none where another stands
+abbrev pub numbersIn : ℕ → DueRead → List ℕ
 numbersIn tag (Got f) = pick (eqb (tagOf (f .value)) tag) (numbersOf (f .value)) []
-numbersIn tag (Cut t place) = []
-numbersIn tag (NoField r) = []
+numbersIn tag (Missing r) = []
 
-abbrev pub countIn : FieldRead → ℕ
-countIn r = getD (numbersIn 17 r) 0 0
+abbrev pub countIn : DueRead → ℕ
+countIn d = getD (numbersIn 17 d) 0 0
 
-abbrev pub entryIn : FieldRead → Entry
-entryIn r = record { wire = getD (numbersIn 18 r) 0 0; offset = getD (numbersIn 18 r) 1 0 }
+abbrev pub entryIn : DueRead → Entry
+entryIn d = record { wire = getD (numbersIn 18 d) 0 0; offset = getD (numbersIn 18 d) 1 0 }
 
 -- "wire numbers run 1 to 1,024 and offsets to 10,000,000"
 abbrev pub entryInRange : Entry → Bool
@@ -54,25 +53,25 @@ entryInRange e = both (ltb 0 (e .wire)) (both (leb (e .wire) mostNodes) (leb (e 
 
 -- the number of entries that the front of a file says
 unfoldable pub owed : List ℕ → ℕ
-owed s = countIn (fieldAt s 0)
+owed s = countIn (dueAt 17 s 0)
 
 -- 0 to 4,096
 unfoldable pub countJudged : List ℕ → Judged
-countJudged s = thenJudge (due 17 (fieldAt s 0)) (unless (leb (owed s) mostEntries) (OutOfRange 0))
+countJudged s = thenJudge (due (dueAt 17 s 0)) (unless (leb (owed s) mostEntries) (OutOfRange 0))
 
 -- the byte where entry i starts, and where the end does after i entries
 abbrev pub startOf : ℕ → ℕ
 startOf i = 5 + 9 * i
 
 unfoldable pub entryAt : List ℕ → ℕ → Entry
-entryAt s i = entryIn (fieldAt s (startOf i))
+entryAt s i = entryIn (dueAt 18 s (startOf i))
 
 unfoldable pub entryJudged : List ℕ → ℕ → Judged
-entryJudged s i = thenJudge (due 18 (fieldAt s (startOf i))) (unless (entryInRange (entryAt s i)) (OutOfRange (startOf i)))
+entryJudged s i = thenJudge (due (dueAt 18 s (startOf i))) (unless (entryInRange (entryAt s i)) (OutOfRange (startOf i)))
 
 -- "After 7F comes 6"
 unfoldable pub endJudged : List ℕ → ℕ → Judged
-endJudged s at = thenJudge (due 127 (fieldAt s at)) (unless (leb (length s) (at + 3)) (BytesAfterEnd (at + 3)))
+endJudged s at = thenJudge (due (dueAt 127 s at)) (unless (leb (length s) (at + 3)) (BytesAfterEnd (at + 3)))
 
 -- n entries and the end
 unfoldable pub bodyJudged : List ℕ → ℕ → Judged
@@ -86,11 +85,6 @@ wire e = e .wire
 
 abbrev pub offset : Entry → ℕ
 offset e = e .offset
-
--- k entries, from entry i on
-unfoldable pub listed : (ℕ → Entry) → ℕ → ℕ → List Entry
-listed f zero i = []
-listed f (suc k) i = f i ∷ listed f k (suc i)
 
 -- ---- what a file says, and what two columns say: the entries or the first refusal
 

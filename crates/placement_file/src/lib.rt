@@ -6,9 +6,9 @@ ghost use lib.ListN.{length};
 ghost use lib.Seq.{sets};
 ghost use Rattle.net.specs.Judge.{unless as orRefused, thenJudge};
 ghost use Rattle.net.specs.Load.{entries};
-ghost use Rattle.field.specs.Format.{tagOf, bytesOf};
-ghost use Rattle.placement_file.specs.File.{due, countIn, entryIn, entryInRange, owed, countJudged, entryAt, entryJudged, endJudged, bodyJudged, fileJudged, wire, offset, listed, placementOf, columnEntry, rangesJudged, columnsJudged, columnsOf, ReadAs, placementBytes, WroteAs};
-use field::FieldRead;
+ghost use Rattle.field.specs.Listed.{listed};
+ghost use Rattle.placement_file.specs.File.{due, countIn, entryIn, entryInRange, owed, countJudged, entryAt, entryJudged, endJudged, bodyJudged, fileJudged, wire, offset, placementOf, columnEntry, rangesJudged, columnsJudged, columnsOf, ReadAs, placementBytes, WroteAs};
+use field::DueRead;
 use field::Value;
 use field::Wrote;
 use net::Entry;
@@ -24,51 +24,20 @@ pub enum PlacementRead {
 // What the writer answers: the bytes written, or why none.
 pub type PlacementWrote = field::Wrote;
 
-fn tag_of(v: Value) -> u8
-    ensures { λ r. ⌜ r ≡ tagOf v ⌝ }
-{
-    match v {
-        Value::Limits(_) => 1,
-        Value::Branch { parent: _, wire: _ } => 2,
-        Value::Sink {
-            parent: _,
-            wire: _,
-            pin: _,
-            polarity: _,
-        } => 3,
-        Value::Count(_) => 17,
-        Value::Entry(_) => 18,
-        Value::End => 127,
-    }
-}
-
-// A field of this tag is due.
-fn judge_due(read: FieldRead, tag: u8) -> Judged
-    ensures { λ r. ⌜ r ≡ due tag read ⌝ }
+// Whether the field that is due was found.
+fn judge_due(read: DueRead) -> Judged
+    ensures { λ r. ⌜ r ≡ due read ⌝ }
 {
     match read {
-        FieldRead::Got(f) => {
-            let at = f.at;
-            let v = f.value;
-            if tag_of(v) == tag {
-                return Judged::Sound;
-            }
-            Judged::Refused(Refusal::NotDue(at))
-        }
-        FieldRead::Cut { tag: t, place } => {
-            if t == tag {
-                return Judged::Refused(Refusal::FileEnds(place));
-            }
-            Judged::Refused(Refusal::NotDue(place))
-        }
-        FieldRead::Refused(r) => Judged::Refused(r),
+        DueRead::Got(_) => Judged::Sound,
+        DueRead::Refused(r) => Judged::Refused(r),
     }
 }
 
-fn count_in(read: FieldRead) -> u16
+fn count_in(read: DueRead) -> u16
     ensures { λ r. ⌜ r ≡ countIn read ⌝ }
 {
-    let FieldRead::Got(f) = read else {
+    let DueRead::Got(f) = read else {
         return 0;
     };
     let v = f.value;
@@ -78,11 +47,11 @@ fn count_in(read: FieldRead) -> u16
     n
 }
 
-fn entry_in(read: FieldRead) -> Entry
+fn entry_in(read: DueRead) -> Entry
     ensures { λ r. ⌜ r ≡ entryIn read ⌝ }
 {
     let none = Entry { wire: 0, offset: 0 };
-    let FieldRead::Got(f) = read else {
+    let DueRead::Got(f) = read else {
         return none;
     };
     let v = f.value;
@@ -102,7 +71,7 @@ fn entry_in_range(e: Entry) -> bool
 fn owed_in(s: &[u8]) -> usize
     ensures { λ r. ⌜ r ≡ owed (now (s .entry)) ⌝ }
 {
-    count_in(field::read_field(s, 0)) as usize
+    count_in(field::read_due(s, 0, 17)) as usize
 }
 
 // A refusal where a test fails, and the next judgement where there is none: the definitions' own `unless` and `thenJudge`.
@@ -128,7 +97,7 @@ fn judge_count(s: &[u8]) -> Judged
     ensures { λ r. ⌜ r ≡ countJudged (now (s .entry)) ⌝ }
 {
     let ranged = unless(owed_in(s) <= 4096, Refusal::OutOfRange(0));
-    then_judge(judge_due(field::read_field(s, 0), 17), ranged)
+    then_judge(judge_due(field::read_due(s, 0, 17)), ranged)
 }
 
 // Entry i of a file.
@@ -137,10 +106,10 @@ fn judge_entry(s: &[u8], i: usize) -> Judged
     ensures { λ r. ⌜ r ≡ entryJudged (now (s .entry)) i ⌝ }
 {
     let at = 5 + 9 * i;
-    let read = field::read_field(s, at);
+    let read = field::read_due(s, at, 18);
     let e = entry_in(read);
     let ranged = unless(entry_in_range(e), Refusal::OutOfRange(at));
-    then_judge(judge_due(read, 18), ranged)
+    then_judge(judge_due(read), ranged)
 }
 
 // The end, and no byte after it.
@@ -150,7 +119,7 @@ fn judge_end(s: &[u8], at: usize) -> Judged
 {
     let next = at + 3;
     let last = unless(s.len() <= next, Refusal::BytesAfterEnd(next));
-    then_judge(judge_due(field::read_field(s, at), 127), last)
+    then_judge(judge_due(field::read_due(s, at, 127)), last)
 }
 
 // The n entries and the end.
@@ -186,7 +155,7 @@ fn fill(s: &[u8], count: usize, wires: &mut [u16], offsets: &mut [u32])
 {
     let mut i: usize = 0;
     while i < count {
-        let e = entry_in(field::read_field(s, 5 + 9 * i));
+        let e = entry_in(field::read_due(s, 5 + 9 * i, 18));
         wires[i] = e.wire;
         offsets[i] = e.offset;
         i += 1;
@@ -250,29 +219,22 @@ fn judge_columns(wires: &[u16], offsets: &[u32]) -> Judged
     judge_ranges(wires, offsets)
 }
 
-// Writes a field where the last one ended, and answers where it ends itself.
-fn put(out: &mut [u8], at: usize, v: Value) -> usize
-    requires { ⌜ at + length (bytesOf v) ≤ length (now out) ⌝ }
-    ensures { λ r. ⌜ (r ≡ at + length (bytesOf v)) × (now (out .exit) ≡ sets (now (out .entry)) at (bytesOf v)) ⌝ }
-{
-    field::write_field(&mut out[at..], v);
-    at + field::size(v)
-}
-
-// Writes the count, the entries and the end.
+// Writes the count, the entries and the end, each into the part of the buffer that begins where the last one ended.
 fn write_fields(wires: &[u16], offsets: &[u32], out: &mut [u8])
     requires { ⌜ (length (now offsets) ≡ length (now wires)) × (length (now wires) ≤ 4096) × (8 + 9 * length (now wires) ≤ length (now out)) ⌝ }
     ensures { λ _. ⌜ now (out .exit) ≡ sets (now (out .entry)) 0 (placementBytes (entries (now (wires .entry)) (now (offsets .entry)))) ⌝ }
 {
     let n = wires.len();
-    let mut at = put(out, 0, Value::Count(n as u16));
+    field::write_field(out, Value::Count(n as u16));
+    let mut at: usize = 5;
     let mut i: usize = 0;
     while i < n {
         let e = column_entry(wires, offsets, i);
-        at = put(out, at, Value::Entry(e));
+        field::write_field(&mut out[at..], Value::Entry(e));
+        at += 9;
         i += 1;
     }
-    put(out, at, Value::End);
+    field::write_field(&mut out[at..], Value::End);
 }
 
 // Writes the file of a placement. The columns are judged, and the room, before anything is written.

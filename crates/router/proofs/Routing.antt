@@ -18,7 +18,9 @@ use Rattle.net.specs.Figures.{mostPlaces, mostEntries}
 use Rattle.net.specs.Choose.{pick}
 use Rattle.net.specs.Net.{Net, places}
 use Rattle.net.proofs.SoundSays.{sound-says}
+use Rattle.field.specs.Listed.{listed}
 use Rattle.field.proofs.Numbers.{AreBytes}
+use Rattle.field.proofs.Listing.{length-listed}
 use Rattle.net_file.specs.declared.NetRead.{NetRead}
 use Rattle.net_file.specs.declared.NetRead.the-variants.{Read as NetWasRead, Refused as NetRefused}
 use Rattle.net.specs.Refusal.{judgedNumber}
@@ -30,9 +32,8 @@ use Rattle.net_file.specs.NetFile.{netOf, room, firstPlaces, ReadNet}
 use Rattle.net_file.proofs.ReadWrite.{Same, same-bytes, answered-read, read-net, front-is}
 use Rattle.placement_file.specs.declared.PlacementRead.{PlacementRead}
 use Rattle.placement_file.specs.declared.PlacementRead.the-variants.{Read, Refused}
-use Rattle.placement_file.specs.File.{Outcome, placement, refused, outcome, owed, entryAt, listed, fileJudged, placementOf, wire, offset, answer, ReadAs}
+use Rattle.placement_file.specs.File.{Outcome, placement, refused, outcome, owed, entryAt, fileJudged, placementOf, wire, offset, answer, ReadAs}
 use Rattle.placement_file.proofs.Judging.{sound-few}
-use Rattle.placement_file.proofs.Listing.{length-listed}
 
 never : {A : Type 0} → _≡_ {A = ℕ} 0 1 → A
 never e = absurd (omega arith)

@@ -1,5 +1,6 @@
 -- `judge_fields` tells `netFrom`: what is left of the fields decides, each way out is one of its ways to end, and what was judged is laid over our columns.
 use Prim.Native.Nat.{_-_}
+use denote.Ref.{now}
 use native.Mathlib.Omega.{arith}
 use mathlib.Core.Path.{sym, ap, _∙_}
 use borrow.Author.Needs.{needs}
@@ -7,6 +8,7 @@ use Rattle.net.specs.Net.{Net, net}
 use Rattle.net.specs.Counted.{unlimited}
 use Rattle.net_file.proofs.Judging.{Judging, start, stop-wrong, stop-end, ends, stop-node, fits, next-node}
 use Rattle.net_file.proofs.Filling.{Filling, fill-start, fill-next, fill-last, own-places}
+use Rattle.net_file.proofs.ReadWrite.{end-inside}
 use Rattle.net_file.proofs.Reading.{refused-file, sound-file}
 use Rattle.net_file.proofs.judge_fields.Statement.{statement}
 use Rattle.net_file.proofs.judge_fields.Tie as tie
@@ -43,20 +45,36 @@ loop-again c =
     let put = c .before .before .before .before .before .before .before .before .before .before .put-node .ensures in
     (next-node _ _ (at .inv .0) e (c .before .before .before .before .before .before .before .before .before .before .before .before .before .before .before .before .before .before .before .before .before .admit .ensures) (c .before .before .before .before .before .before .before .before .before .before .before .before .before .before .before .before .before .before .before .enum-told .given .1) (ap (λ (n : Net). n .kinds) put) (c .before .before .before .before .before .before .before .before .before .before .before .before .before .before .before .before .tally .ensures), fill-next _ _ _ (at .inv .1) (omega (arith, at .inv .0 .fuel)) e put)
 
+add-finish : tie.Need-add-finish Inv-loop μ-loop
+add-finish c =
+    let t = c .before .before in
+    let l = t .before in
+    let s = l .before .before .before .before .before .before .before in
+    omega (arith, end-inside (now (s .args .s)) (λ k. l .before .before .before .before .before .before .shared-slice-known .given k .fits) (l .loop .at) (sym (t .take-node .ensures) ∙ c .enum-told2 .given .1), s .good)
+
 finish-requires : tie.Need-finish-requires Inv-loop μ-loop
-finish-requires c κs = let j = c .before .before .before .before .before .before .loop .inv .0 in (omega (arith, j .fuel, j .long), j .tallied .long, omega (arith, j .fuel))
+finish-requires c κs = let j = c .before .before .before .before .before .loop .inv .0 in (omega (arith, j .fuel, j .long), j .tallied .long, omega (arith, j .fuel))
 
 returns-2 : tie.Need-returns-2 Inv-loop μ-loop
-returns-2 c = refused-file (stop-end _ _ (c .before .before .before .before .before .before .before .before .before .before .loop .inv .0) (sym (c .before .before .before .before .before .before .before .before .before .take-node .ensures) ∙ c .before .before .before .before .before .before .before .taken2 .given .1) (c .before .before .before .finish .ensures) _ (c .before .end .given .1))
+returns-2 c =
+    let f = c .before .before .before in
+    let e = f .before .before .before in
+    let t = e .before .before in
+    refused-file (stop-end _ _ (t .before .loop .inv .0) (sym (t .take-node .ensures) ∙ e .enum-told2 .given .1) (f .finish .ensures) _ (c .before .end .given .1))
 
 returns-3 : tie.Need-returns-3 Inv-loop μ-loop
 returns-3 c =
-    let at = c .before .before .before .before .before .before .before .before .before .loop in
-    let e = sym (c .before .before .before .before .before .before .before .before .take-node .ensures) ∙ c .before .before .before .before .before .before .taken2 .given .1 in
-    sound-file (ends _ _ (at .inv .0) e (c .before .before .finish .ensures) (c .enum-told2 .given .1)) (c .before .before .before .before .before .before .before .before .before .before .before .before .before .before .before .before .pre) (fill-last _ _ _ (at .inv .1) (omega (arith, at .inv .0 .fuel)) e)
+    let f = c .before .before in
+    let e = f .before .before .before in
+    let t = e .before .before in
+    let l = t .before in
+    let q = sym (t .take-node .ensures) ∙ e .enum-told2 .given .1 in
+    sound-file (ends _ _ (l .loop .inv .0) q (f .finish .ensures) (c .enum-told3 .given .1)) (l .before .before .before .before .before .before .before .pre) (fill-last _ _ _ (l .loop .inv .1) (omega (arith, l .loop .inv .0 .fuel)) q)
 
 returns-4 : tie.Need-returns-4 Inv-loop μ-loop
-returns-4 c = refused-file (stop-wrong _ _ (c .before .before .before .before .loop .inv .0) _ (sym (c .before .before .before .take-node .ensures) ∙ c .before .taken3 .given .1))
+returns-4 c =
+    let t = c .before .before .before in
+    refused-file (stop-wrong _ _ (t .before .loop .inv .0) _ (sym (t .take-node .ensures) ∙ c .before .taken2 .given .1))
 
 pub judge-fields-spec : {M : Type 1} → statement M
 judge-fields-spec =
@@ -83,20 +101,21 @@ judge-fields-spec =
     (λ c. omega (arith, c .before .before .before .before .before .before .before .before .before .before .before .before .before .before .before .before .before .before .before .before .before .before .before .before .before .before .before .before .loop .inv .0 .fuel))
     loop-again
     (λ c. search needs)
+    add-finish
     finish-requires
-    (λ c. search needs)
-    (λ c. c .before .before .before .before .before .before .before .before .before .before .loop .inv .1 .long .parents)
-    (λ c. c .before .before .before .before .before .before .before .before .before .before .loop .inv .1 .long .wires)
-    (λ c. c .before .before .before .before .before .before .before .before .before .before .loop .inv .1 .long .kinds)
-    (λ c. c .before .before .before .before .before .before .before .before .before .before .loop .inv .1 .long .pins)
-    (λ c. c .before .before .before .before .before .before .before .before .before .before .loop .inv .1 .long .polarities)
-    returns-2
     (λ c. search needs)
     (λ c. c .before .before .before .before .before .before .before .before .before .loop .inv .1 .long .parents)
     (λ c. c .before .before .before .before .before .before .before .before .before .loop .inv .1 .long .wires)
     (λ c. c .before .before .before .before .before .before .before .before .before .loop .inv .1 .long .kinds)
     (λ c. c .before .before .before .before .before .before .before .before .before .loop .inv .1 .long .pins)
     (λ c. c .before .before .before .before .before .before .before .before .before .loop .inv .1 .long .polarities)
+    returns-2
+    (λ c. search needs)
+    (λ c. c .before .before .before .before .before .before .before .before .loop .inv .1 .long .parents)
+    (λ c. c .before .before .before .before .before .before .before .before .loop .inv .1 .long .wires)
+    (λ c. c .before .before .before .before .before .before .before .before .loop .inv .1 .long .kinds)
+    (λ c. c .before .before .before .before .before .before .before .before .loop .inv .1 .long .pins)
+    (λ c. c .before .before .before .before .before .before .before .before .loop .inv .1 .long .polarities)
     returns-3
     (λ c. search needs)
     (λ c. c .before .before .before .before .loop .inv .1 .long .parents)

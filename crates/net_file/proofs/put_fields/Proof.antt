@@ -2,16 +2,18 @@
 use Prim.Native.Nat.{_-_, _≤_}
 use denote.Ref.{now}
 use native.Mathlib.Omega.{arith}
-use mathlib.Core.Path.{ap, _∙_}
+use mathlib.Core.Path.{refl, ap, _∙_}
 use lib.ListN.{length}
 use lib.Seq.{length-sets}
 use borrow.Author.Needs.{needs}
 use Rattle.net.specs.Net.{net, netAt, node}
 use Rattle.net.specs.Counted.{unlimited}
-use Rattle.field.specs.declared.Value.the-variants.{End}
+use Rattle.field.specs.declared.Value.the-variants.{Limits, End}
 use Rattle.field.specs.Format.{bytesOf}
+use Rattle.field.proofs.Parts.{put-back}
+use Rattle.field.proofs.Writing.{laid-whole}
 use Rattle.net_file.specs.NetFile.{fieldOf}
-use Rattle.net_file.proofs.Writing.{Left, Putting, put-start, room-next, put-next, room-end, put-end, put-all, put-back, part-room}
+use Rattle.net_file.proofs.Writing.{Left, Putting, put-start, room-next, put-next, room-end, put-end, put-all}
 use Rattle.net_file.proofs.put_fields.Statement.{statement}
 use Rattle.net_file.proofs.put_fields.Tie as tie
 
@@ -23,42 +25,48 @@ abbrev μ-loop : tie.MeasureT-loop
 
 loop-holds : tie.Need-loop-holds Inv-loop μ-loop
 loop-holds c =
-    let k = c .before .before .put-field .kept .0 in let p = c .before .before .before .before .before .before .before .before .before .before .pre in
-    (p .0 .some, put-start _ _ _ (c .before .before .put-field .ensures .0) (omega (arith, k, p .1)))
-
-put-field-requires-2 : tie.Need-put-field-requires-2 Inv-loop μ-loop
-put-field-requires-2 c κs =
-    let at = c .before .before .before .before .loop in
-    part-room (at .out) (at .at) _ (room-next _ _ _ (at .inv .1) (c .before .before .before .loop-test .taken) (c .value-of .ensures ∙ ap fieldOf (c .before .before .node-at .ensures)))
+    let first = c .before .before in
+    let p = first .before .before .before .before .before .before .before .before .pre in
+    (p .0 .some, put-start _ _ _ refl (omega (arith, first .write-field .kept .0, p .1)))
 
 add-at : tie.Need-add-at Inv-loop μ-loop
 add-at c =
-    let at = c .before .before .before .before .before .before .before .loop in
-    let r = room-next _ _ _ (at .inv .1) (c .before .before .before .before .before .before .loop-test .taken) (c .before .before .before .value-of .ensures ∙ ap fieldOf (c .before .before .before .before .before .node-at .ensures)) in
-    omega (arith, r, c .before .before .put-field2 .ensures .0, at .inv .1 .long, c .before .before .before .before .before .before .before .before .before .before .put-field .kept .0, c .before .before .before .before .before .before .before .before .before .before .before .before .before .before .before .before .before .before .good)
+    let v = c .before .before .before .before .before in
+    let t = v .before .before in
+    let l = t .before in
+    let first = l .before .before .before in
+    let r = room-next _ _ _ (l .loop .inv .1) (t .loop-test .taken) (v .value-of .ensures ∙ ap fieldOf (v .before .node-at .ensures)) in
+    omega (arith, r, c .size .ensures, l .loop .inv .1 .long, first .write-field .kept .0, first .before .before .before .before .before .before .before .before .good)
 
 loop-again : tie.Need-loop-again Inv-loop μ-loop
 loop-again c =
-    let at = c .before .before .before .before .before .before .before .loop in let h = c .before .before .before .before .before .before .loop-test .taken in
-    let e = c .before .before .before .value-of .ensures ∙ ap fieldOf (c .before .before .before .before .before .node-at .ensures) in
-    (omega arith, put-next _ _ _ (at .inv .1) h e (c .before .before .put-field2 .ensures .0) (put-back (at .out) (bytesOf (c .before .before .before .value-of .result)) (at .at) (room-next _ _ _ (at .inv .1) h e) (c .before .before .put-field2 .ensures .1)))
-
-put-field-requires-3 : tie.Need-put-field-requires-3 Inv-loop μ-loop
-put-field-requires-3 c κs = let at = c .before .before .loop in part-room (at .out) (at .at) 3 (room-end _ _ _ (at .inv .1) (c .before .loop-test .left))
+    let v = c .before .before .before .before .before in
+    let t = v .before .before in
+    let l = t .before .loop in
+    let h = t .loop-test .taken in
+    let e = v .value-of .ensures ∙ ap fieldOf (v .before .node-at .ensures) in
+    (omega arith, put-next _ _ _ (l .inv .1) h e (c .size .ensures) (put-back (l .out) (bytesOf (v .value-of .result)) (l .at) (room-next _ _ _ (l .inv .1) h e) (c .before .before .before .write-field2 .ensures .1)))
 
 same-length : tie.Need-same-length Inv-loop μ-loop
 same-length c =
-    let at = c .before .before .before .before .before .loop in
-    ap length (put-back (at .out) (bytesOf End) (at .at) (room-end _ _ _ (at .inv .1) (c .before .before .before .before .loop-test .left)) (c .before .before .put-field3 .ensures .1))
-    ∙ length-sets (at .out) (at .at) (bytesOf End)
-    ∙ at .inv .1 .long
-    ∙ c .before .before .before .before .before .before .before .before .put-field .kept .0
+    let t = c .before .before .before .before in
+    let l = t .before .loop in
+    ap length (put-back (l .out) (bytesOf End) (l .at) (room-end _ _ _ (l .inv .1) (t .loop-test .left)) (c .before .before .write-field3 .ensures .1))
+    ∙ length-sets (l .out) (l .at) (bytesOf End)
+    ∙ l .inv .1 .long
+    ∙ t .before .before .before .before .write-field .kept .0
 
 returns : tie.Need-returns Inv-loop μ-loop
 returns c =
-    let at = c .before .before .before .before .before .loop in let a = c .before .before .before .before .before .before .before .before .before .before .before .before .before .before .before .before .args in let h = c .before .before .before .before .loop-test .left in
-    put-all (now (a .out)) (a .l) (Left (node (netAt unlimited (a .parent) (a .wire) (a .kind) (a .pin) (a .polarity))) (length (now (a .parent))) 1) (c .before .before .before .before .before .before .before .before .put-field .ensures .1)
-    (put-end _ _ _ (at .inv .1) h (put-back (at .out) (bytesOf End) (at .at) (room-end _ _ _ (at .inv .1) h) (c .before .before .put-field3 .ensures .1)))
+    let t = c .before .before .before .before in
+    let l = t .before .loop in
+    let h = t .loop-test .left in
+    let first = t .before .before .before .before in
+    let s = first .before .before .before .before .before .before .before .before in
+    let a = s .args in
+    put-all (now (a .out)) (a .l) (Left (node (netAt unlimited (a .parent) (a .wire) (a .kind) (a .pin) (a .polarity))) (length (now (a .parent))) 1)
+    (first .write-field .ensures .1 ∙ laid-whole (bytesOf (Limits (a .l))) (now (a .out)) (omega (arith, s .pre .1)))
+    (put-end _ _ _ (l .inv .1) h (put-back (l .out) (bytesOf End) (l .at) (room-end _ _ _ (l .inv .1) h) (c .before .before .write-field3 .ensures .1)))
 
 pub put-fields-spec : {M : Type 1} → statement M
 put-fields-spec =
@@ -66,14 +74,15 @@ put-fields-spec =
     (tie.spec
     Inv-loop
     μ-loop
-    (λ c κs. omega (arith, c .before .before .before .before .before .before .before .pre .1))
+    (λ c κs. search needs)
     loop-holds
     (λ c κs. search needs)
-    (λ c. omega (arith, c .before .before .loop .inv .1 .room))
-    (λ c. omega (arith, c .before .before .loop .inv .1 .room))
-    (λ c. omega (arith, c .before .before .loop .inv .1 .room))
     (λ c κs. search needs)
-    put-field-requires-2
+    (λ c. omega (arith, c .before .before .before .loop .inv .1 .room))
+    (λ c. omega (arith, c .before .before .before .loop .inv .1 .room))
+    (λ c. omega (arith, c .before .before .before .loop .inv .1 .room))
+    (λ c κs. search needs)
+    (λ c κs. search needs)
     add-at
     (λ c. omega arith)
     (λ c. omega arith)
@@ -81,6 +90,6 @@ put-fields-spec =
     (λ c. omega (arith, c .before .loop .inv .1 .room))
     (λ c. omega (arith, c .before .loop .inv .1 .room))
     (λ c. omega (arith, c .before .loop .inv .1 .room))
-    put-field-requires-3
+    (λ c κs. search needs)
     same-length
     returns)

@@ -17,6 +17,5 @@ taken-of-spec =
     (λ c. search needs)
     (λ c. sym (ap (takenValue (c .before .before .before .before .args .f .at)) (c .before .value2 .given .1)))
     (λ c. search needs)
-    (λ c. search needs)
     (λ c. sym (ap (takenValue (c .before .before .before .before .args .f .at)) (c .enum-told .given .1)))
     (λ c. taken-other _ (c .before .before .before .args .f .value) (c .before .before .match .keys2) (c .before .match2 .keys2) (c .match3 .keys2)))

@@ -1,6 +1,6 @@
 -- `count_in` takes out a count.
 use borrow.Author.Needs.{needs}
-use Rattle.placement_file.proofs.Taking.{no-field, other-count}
+use Rattle.placement_file.proofs.Taking.{other-count}
 use Rattle.placement_file.proofs.count_in.Statement.{statement}
 use Rattle.placement_file.proofs.count_in.Tie as tie
 
@@ -9,7 +9,8 @@ count-in-spec =
     tie.close
     (tie.spec
     (λ c. search needs)
-    (λ c. simp (no-field 17 (c .before .args .read) (c .match .keys2)))
+    (λ c. search needs)
+    (λ c. search needs)
     (λ c. search needs)
     (λ c. let g = c .before .before .read .given in other-count (g .0 .0) (g .1) (c .match2 .keys2))
     (λ c. search needs))

@@ -1,6 +1,8 @@
 -- `entry_in` takes out an entry.
+use mathlib.Core.Path.{sym, ap}
 use borrow.Author.Needs.{needs}
-use Rattle.placement_file.proofs.Taking.{no-field, other-entry, this-entry}
+use Rattle.placement_file.specs.File.{entryIn}
+use Rattle.placement_file.proofs.Taking.{other-entry, this-entry}
 use Rattle.placement_file.proofs.entry_in.Statement.{statement}
 use Rattle.placement_file.proofs.entry_in.Tie as tie
 
@@ -9,7 +11,8 @@ entry-in-spec =
     tie.close
     (tie.spec
     (λ c. search needs)
-    (λ c. simp (no-field 18 (c .before .args .read) (c .match .keys2)))
+    (λ c. search needs)
+    (λ c. sym (ap entryIn (c .enum-told .given .1)))
     (λ c. search needs)
     (λ c. let g = c .before .before .read .given in other-entry (g .0 .0) (g .1) (c .match2 .keys2))
     (λ c. let g = c .before .before .before .before .read .given in this-entry (g .0 .0) (g .1) _ (c .before .v .given .1)))

@@ -17,7 +17,7 @@ abbrev μ-loop : tie.MeasureT-loop
 loop-again : tie.Need-loop-again Inv-loop μ-loop
 unfolding entryAt
 loop-again c =
-    let e = c .entry-in .ensures ∙ ap entryIn (c .before .read-field .ensures) in
+    let e = c .entry-in .ensures ∙ ap entryIn (c .before .read-due .ensures) in
     let t = c .before .before in
     let at = t .before .loop .inv in
     (omega arith, column-next (at .1) (t .loop-test .taken) (ap wire e), column-next (at .2) (t .loop-test .taken) (ap offset e))

@@ -7,7 +7,7 @@ use Rattle.placement_file.proofs.owed_in.Tie as tie
 
 returns : tie.Need-returns
 unfolding owed
-returns c = c .count-in .ensures ∙ ap countIn (c .before .read-field .ensures)
+returns c = c .count-in .ensures ∙ ap countIn (c .before .read-due .ensures)
 
 pub owed-in-spec : {M : Type 1} → statement M
 owed-in-spec = tie.close (tie.spec (λ c κs. search needs) (λ c κs. search needs) (λ c. search needs) returns)
