@@ -9,7 +9,6 @@ import time
 
 ROOT = pathlib.Path(__file__).resolve().parent.parent
 LAUNCHER = ROOT / "mustorgyel"
-RUN = os.environ.get("RUN", "").split()
 EXAMPLE = (ROOT / "examples/wire-14.net").read_bytes()
 PRINTED = b"least 1\nwire 1 offset 6 drives 10\nsource drives 10\n"
 
@@ -47,7 +46,7 @@ class Tally:
         with tempfile.NamedTemporaryFile() as file:
             file.write(data[:16384])
             file.flush()
-            done = subprocess.run(RUN + [self.judge, file.name], input=text, capture_output=True, check=False)
+            done = subprocess.run([self.judge, file.name], input=text, capture_output=True, check=False)
         self.expect(done.returncode == 0, f"{name}: {done.stdout.decode().strip()}: {text[:60]!r}")
         self.expect(status == text.startswith(b"refused"), f"{name}: status {status} with {text[:60]!r}")
 

@@ -3,10 +3,8 @@ and random cases from a fixed seed.
 
     python3 compare_references.py PROGRAM [HOW_MANY]
 
-PROGRAM is compare_references.c compiled with reference.c; where the machine cannot run it
-itself, RUN in the environment says what does. See README.md.
+PROGRAM is compare_references.c compiled with reference.c. See README.md.
 """
-import os
 import random
 import subprocess
 import sys
@@ -292,8 +290,7 @@ def main():
     asked = [*table_questions(), *stored_questions(),
              *random_questions(random.Random(SEED), number)]
     text = "".join(question + "\n" for question, _ in asked)
-    command = [*os.environ.get("RUN", "").split(), program]
-    done = subprocess.run(command, input=text, capture_output=True, text=True, check=True)
+    done = subprocess.run([program], input=text, capture_output=True, text=True, check=True)
     answers = done.stdout.splitlines()
     assert len(answers) == len(asked), "the program stopped early"
     for (question, python), c in zip(asked, answers):

@@ -1,11 +1,13 @@
 """Makes the stored set of damaged (and some sound) files, and what a reader must answer.
 
-Run without arguments: writes damaged/*.bin, *.expected and *.list anew (they are stored, and
-come out the same each time). With --check: makes them in memory and compares with the stored.
+Run without arguments: writes damaged/*.bin, *.expected and *.list, and what crate file_runs reads
+and must print, anew (they are stored, and come out the same each time). With --check: makes them
+in memory and compares with the stored.
 
 A .bin file holds cases one after another: a length of four bytes, high byte first, then that
 many bytes. The .expected file has a line for each case: `read N` (places or entries filled) or
-`refused N place P`. The .list file says in words what each case is.
+`refused N place P`. The .list file says in words what each case is. The crate reads all sets, each
+case after a byte more, 1 for a net file and 2 for a placement file.
 """
 import random
 import sys
@@ -15,6 +17,7 @@ import reference as ref
 from reference import BRANCH, COUNT, END, ENTRY, LIMITS, SINK, Limits, Net, Placement
 
 HERE = Path(__file__).parent / "damaged"
+CRATE = Path(__file__).parent.parent / "crates/file_runs"
 SEED = 20010
 WRONG_TAGS = (0x00, 0x01, 0x02, 0x03, 0x04, 0x05, 0x06, 0x10, 0x11, 0x12, 0x13, 0x21,
               0x7E, 0x7F, 0x80, 0x81, 0xFF)
@@ -381,25 +384,35 @@ def stored_form(make, read, kinds):
     cases = unlike(make())
     missing = kinds - kinds_seen(read, cases)
     assert not missing, f"no case for {missing}"
-    packed = b"".join(len(data).to_bytes(4, "big") + data for _, data in cases)
-    assert len(packed) < 200_000
+    packed = [len(data).to_bytes(4, "big") + data for _, data in cases]
+    assert len(b"".join(packed)) < 200_000
     expected = "".join(answer(read, data) + "\n" for _, data in cases)
     names = "".join(f"{n}: {name}\n" for n, (name, _) in enumerate(cases))
-    return {".bin": packed, ".expected": expected.encode(), ".list": names.encode()}, len(cases)
+    return packed, expected.encode(), names.encode()
+
+
+def store(path, content):
+    if "--check" not in sys.argv[1:]:
+        path.write_bytes(content)
+    elif path.read_bytes() != content:
+        sys.exit(f"{path} is not what make_damaged.py makes")
 
 
 def main():
-    checking = "--check" in sys.argv[1:]
     HERE.mkdir(exist_ok=True)
+    asked, told = b"", b""
     for name, (make, read, kinds) in SETS.items():
-        forms, number = stored_form(make, read, kinds)
-        for ending, content in forms.items():
-            path = HERE / (name + ending)
-            if not checking:
-                path.write_bytes(content)
-            elif path.read_bytes() != content:
-                sys.exit(f"{path.name} is not what make_damaged.py makes")
-        print(f"{name}: {number} cases, {len(forms['.bin'])} bytes")
+        packed, expected, names = stored_form(make, read, kinds)
+        content = b"".join(packed)
+        store(HERE / (name + ".bin"), content)
+        store(HERE / (name + ".expected"), expected)
+        store(HERE / (name + ".list"), names)
+        kind = b"\x01" if read is ref.read_net else b"\x02"
+        asked += b"".join(kind + case for case in packed)
+        told += expected
+        print(f"{name}: {len(packed)} cases, {len(content)} bytes")
+    store(CRATE / "stdin", asked)
+    store(CRATE / "stdout", told)
 
 
 if __name__ == "__main__":

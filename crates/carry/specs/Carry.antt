@@ -7,12 +7,34 @@ use Rattle.net.specs.declared.Entry.{Entry}
 use Rattle.net.specs.declared.Judged.{Judged}
 use Rattle.net.specs.declared.Judged.the-variants as judgements
 use Rattle.net.specs.Net.{Net}
+use Rattle.net.specs.Refusal.{numberOf, placeOf}
 use Rattle.net.specs.Load.{entries}
 use Rattle.net.specs.Judge.{thenJudge, judged}
 use Rattle.net.specs.Checked.{checked}
 use Rattle.net.specs.Ease.{carried, easeJudged}
 use Rattle.carry.specs.declared.Outcome.{Outcome}
 use Rattle.carry.specs.declared.Outcome.the-variants.{Carried, FirstNet, SecondNet, Refused}
+
+-- in document 01's numbers: 0 is success
+abbrev pub outcomeNumber : Outcome → ℕ
+outcomeNumber (Carried count) = 0
+outcomeNumber (FirstNet r) = numberOf r
+outcomeNumber (SecondNet r) = numberOf r
+outcomeNumber (Refused r) = numberOf r
+
+-- the number of entries, or a refusal's place
+abbrev pub outcomeCount : Outcome → ℕ
+outcomeCount (Carried count) = count
+outcomeCount (FirstNet r) = placeOf r
+outcomeCount (SecondNet r) = placeOf r
+outcomeCount (Refused r) = placeOf r
+
+-- "a refusal of a net names which of the two, all other refusals name neither": 1, 2, or 0 for neither
+abbrev pub whichNet : Outcome → ℕ
+whichNet (Carried count) = 0
+whichNet (FirstNet r) = 1
+whichNet (SecondNet r) = 2
+whichNet (Refused r) = 0
 
 -- which of the two nets a refusal is of
 abbrev pub firstNet : Judged → Outcome → Outcome

@@ -3,19 +3,9 @@ use Prim.Native.Nat.{ℕ}
 use mathlib.Core.Path.{_≡_}
 use mathlib.Core.List.{List}
 use Rattle.net.specs.Net.{Net}
-use Rattle.net.specs.Refusal.{numberOf, placeOf}
 use Rattle.net.specs.Judge.{judged}
 use Rattle.solver.specs.declared.Solved.{Solved}
-use Rattle.solver.specs.declared.Solved.the-variants.{Placed, Refused}
-use Rattle.solver.specs.Answer.{Answered}
-
-abbrev pub solvedNumber : Solved → ℕ
-solvedNumber (Placed count) = 0
-solvedNumber (Refused r) = numberOf r
-
-abbrev pub solvedCount : Solved → ℕ
-solvedCount (Placed count) = count
-solvedCount (Refused r) = placeOf r
+use Rattle.solver.specs.Answer.{Answered, solvedNumber, solvedCount}
 
 pub record Solves (n : Net) (ws os ws′ os′ : List ℕ) (number place : ℕ) : Type 0 where
   pub said : Solved

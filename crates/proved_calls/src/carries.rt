@@ -4,7 +4,8 @@ use net::Limits;
 ghost use mathlib.Core.Path.{_≡_};
 ghost use Rattle.net.specs.Net.{netAt};
 ghost use Rattle.proved_calls.specs.Answers.{limitsOf};
-ghost use Rattle.proved_calls.specs.Carries.{outcomeNumber, outcomeCount, whichNet, Carries};
+ghost use Rattle.carry.specs.Carry.{outcomeNumber, outcomeCount, whichNet};
+ghost use Rattle.proved_calls.specs.Carries.{Carries};
 
 fn outcome_number(said: Outcome) -> u32
     ensures { λ n. ⌜ n ≡ outcomeNumber said ⌝ }

@@ -4,7 +4,8 @@ use solver::Solved;
 ghost use mathlib.Core.Path.{_≡_};
 ghost use Rattle.net.specs.Net.{netAt};
 ghost use Rattle.proved_calls.specs.Answers.{limitsOf};
-ghost use Rattle.proved_calls.specs.Solves.{solvedNumber, solvedCount, Solves};
+ghost use Rattle.solver.specs.Answer.{solvedNumber, solvedCount};
+ghost use Rattle.proved_calls.specs.Solves.{Solves};
 
 fn solved_number(said: Solved) -> u32
     ensures { λ n. ⌜ n ≡ solvedNumber said ⌝ }

@@ -10,6 +10,7 @@ use Rattle.net.specs.declared.Judged.{Judged}
 use Rattle.net.specs.declared.Judged.the-variants as judge
 use Rattle.net.specs.Figures.{mostEntries}
 use Rattle.net.specs.Net.{Net}
+use Rattle.net.specs.Refusal.{numberOf, placeOf}
 use Rattle.net.specs.Legal.{Legal, Least, NoneLegal}
 use Rattle.entries.specs.Columns.{wireColumn, offsetColumn}
 use Rattle.solver.specs.declared.Solved.{Solved}
@@ -39,6 +40,16 @@ pub data Outcome (n : Net) (ws os ws′ os′ : List ℕ) (r : Solved) : Type 0 
 abbrev pub Answered : Judged → Net → List ℕ → List ℕ → List ℕ → List ℕ → Solved → Type 0
 Answered judge.Sound n ws os ws′ os′ r = Outcome n ws os ws′ os′ r
 Answered (judge.Refused x) n ws os ws′ os′ r = (r ≡ Refused x) × Kept ws os ws′ os′
+
+-- in document 01's numbers: 0 is success
+abbrev pub solvedNumber : Solved → ℕ
+solvedNumber (Placed k) = 0
+solvedNumber (Refused r) = numberOf r
+
+-- the count, or a refusal's place
+abbrev pub solvedCount : Solved → ℕ
+solvedCount (Placed k) = k
+solvedCount (Refused r) = placeOf r
 
 -- how many places an answer has written
 abbrev pub written : Solved → ℕ

@@ -2,8 +2,8 @@
 use mathlib.Core.Path.{sym}
 use lib.Seq.{length-take-le}
 use borrow.Author.Needs.{needs}
-use Rattle.placement_file_runs.proofs.write_entries.Statement.{statement}
-use Rattle.placement_file_runs.proofs.write_entries.Tie as tie
+use Rattle.file_runs.proofs.write_entries.Statement.{statement}
+use Rattle.file_runs.proofs.write_entries.Tie as tie
 
 pub write-entries-spec : {M : Type 1} → statement M
 write-entries-spec =

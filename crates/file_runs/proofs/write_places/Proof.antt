@@ -2,8 +2,8 @@
 use mathlib.Core.Path.{sym}
 use lib.Seq.{length-take-le}
 use borrow.Author.Needs.{needs}
-use Rattle.net_file_runs.proofs.write_places.Statement.{statement}
-use Rattle.net_file_runs.proofs.write_places.Tie as tie
+use Rattle.file_runs.proofs.write_places.Statement.{statement}
+use Rattle.file_runs.proofs.write_places.Tie as tie
 
 pub write-places-spec : {M : Type 1} → statement M
 write-places-spec =

@@ -1,12 +1,12 @@
--- `read_some` is safe: the part that it lends lies in the slice.
+-- `read_front` is safe: the part that it lends lies in the slice.
 use mathlib.Core.Path.{sym}
 use lib.Seq.{length-take-le}
 use borrow.Author.Needs.{needs}
-use Rattle.net_file_runs.proofs.read_some.Statement.{statement}
-use Rattle.net_file_runs.proofs.read_some.Tie as tie
+use Rattle.file_runs.proofs.read_front.Statement.{statement}
+use Rattle.file_runs.proofs.read_front.Tie as tie
 
-pub read-some-spec : {M : Type 1} → statement M
-read-some-spec =
+pub read-front-spec : {M : Type 1} → statement M
+read-front-spec =
     tie.close
     (tie.spec
     (λ c. search needs)

@@ -1,7 +1,7 @@
 -- `main` is safe and ends: the measure is the number of turns that are left.
 use native.Mathlib.Omega.{arith}
-use Rattle.placement_file_runs.proofs.main.Statement.{statement}
-use Rattle.placement_file_runs.proofs.main.Tie as tie
+use Rattle.file_runs.proofs.main.Statement.{statement}
+use Rattle.file_runs.proofs.main.Tie as tie
 
 abbrev Inv-loop : tie.InvT-loop
 Inv-loop turns₀ turns = Unit {0}

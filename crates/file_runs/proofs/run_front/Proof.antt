@@ -2,8 +2,8 @@
 use mathlib.Core.Path.{sym}
 use lib.Seq.{length-take-le}
 use borrow.Author.Needs.{needs}
-use Rattle.placement_file_runs.proofs.run_front.Statement.{statement}
-use Rattle.placement_file_runs.proofs.run_front.Tie as tie
+use Rattle.file_runs.proofs.run_front.Statement.{statement}
+use Rattle.file_runs.proofs.run_front.Tie as tie
 
 pub run-front-spec : {M : Type 1} → statement M
 run-front-spec =
