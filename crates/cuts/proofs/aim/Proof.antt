@@ -16,7 +16,7 @@ returns-2 : tie.Need-returns-2
 returns-2 c = (refl, aim-0 _ _ _ _ _ _ (c .if2 .taken))
 
 returns-3 : tie.Need-returns-3
-returns-3 c = (refl, aim-low _ _ _ _ _ _ (c .before .before .if2 .left) (c .before .before .before .if1 .left) (c .if3 .taken))
+returns-3 c = (refl, aim-low _ _ _ _ _ _ (c .before .before .if2 .left) (c .before .before .before .if1 .left) (omega arith))
 
 returns-4 : tie.Need-returns-4
 returns-4 c = (refl, aim-more _ _ _ _ _ _ _ (c .before .before .before .before .if2 .left) (c .before .before .before .before .before .if1 .left) (c .before .before .if3 .left) (omega arith) (omega arith) (λ q. absurd (not-inv _ (c .if4 .taken) q)))

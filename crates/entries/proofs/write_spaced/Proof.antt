@@ -45,7 +45,7 @@ loop-less : tie.Need-loop-less Inv-loop μ-loop
 loop-less c = omega arith
 
 loop-again : tie.Need-loop-again Inv-loop μ-loop
-loop-again c = spacing-more (c .before .before .loop .inv) (c .before .loop-test .taken) _ (c .least .ensures)
+loop-again c = spacing-more (c .before .before .loop .inv) (omega arith) _ (c .least .ensures)
 
 same-length : tie.Need-same-length Inv-loop μ-loop
 same-length c = wires-long (c .before .loop .inv)

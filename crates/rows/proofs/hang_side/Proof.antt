@@ -27,7 +27,7 @@ mix-requires c κs =
     let s = c .before .before .before .before .before .before .before .before .before .before .before in
     let h = subst (Small 1000000000000) (c .before .before .before .before .before .s .given .1) (s .pre .1 .1 .1 .1) in
     let r = row-small (getD (s .args .counts .now) (s .args .from) 0) _ (loadAt (s .args .rows .now) (s .args .from * 34 + s .args .p * 17) (s .args .last)) refl (c .before .before .if1 .left) (s .pre .1 .1 .1 .2) in
-    ((omega (arith, s .pre .0 .0), omega (arith, s .pre .0 .1)), (apart (s .args .p) (s .args .last) (s .args .from) (s .args .i) (s .pre .1 .0 .1) (s .pre .1 .1 .0), ((h .1, h .2, omega (arith, c .before .least .ensures, h .1)), r .1)))
+    ((omega (arith, s .pre .0 .0), omega (arith, s .pre .0 .1)), (apart (s .args .p) (s .args .last) (s .args .from) (s .args .i) (s .pre .1 .0 .1) (s .pre .1 .1 .0), ((omega (arith, h .1), omega (arith, h .1, h .2), omega (arith, c .before .least .ensures, h .1)), r .1)))
 
 returns-3 : tie.Need-returns-3
 returns-3 c =

@@ -44,7 +44,7 @@ answer-spec =
     (λ c κs. search needs)
     returns-2
     place-requires
-    (λ c. search needs)
-    (λ c. search needs)
-    (λ c. search needs)
-    (λ c. search needs))
+    (λ c. c .before .before .before .before .before .walked .given)
+    (λ c. c .before .before .before .wires .given)
+    (λ c. c .before .offsets .given)
+    (λ c. c .before .before .before .before .before .before .place .ensures))

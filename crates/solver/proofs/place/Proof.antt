@@ -3,7 +3,6 @@ use native.Mathlib.Omega.{arith}
 use Prim.Native.Nat.{_≤_}
 use mathlib.Core.Path.{refl, _∙_}
 use lib.ListN.{length, length-set}
-use borrow.Author.Needs.{needs}
 use Rattle.solver.proofs.Rooting.{walked-least, outcome-placed, begun-alive, begun-walked}
 use Rattle.solver.proofs.place.Statement.{statement}
 use Rattle.solver.proofs.place.Tie as tie
@@ -50,6 +49,6 @@ place-spec =
     descend-requires
     write-all-requires
     same-length
-    (λ c. search needs)
-    (λ c. search needs)
+    (λ c. c .before .before .before .wires .given)
+    (λ c. c .before .offsets .given)
     returns)

@@ -1,5 +1,4 @@
 -- The way up fills the tables, and the answer is read out of them.
-use borrow.Author.Needs.{needs}
 use Rattle.solver.proofs.solve_over.Statement.{statement}
 use Rattle.solver.proofs.solve_over.Tie as tie
 
@@ -25,7 +24,7 @@ solve-over-spec =
     (λ c. c .before .before .before .before .before .before .before .before .before .before .before .before .before .before .before .before .before .before .before .before .before .before .before .before .before .minus .given)
     (λ c. c .before .before .before .before .before .before .before .before .before .before .before .before .before .before .before .before .before .before .before .before .before .before .before .minus-load .given)
     (λ c. c .before .before .before .before .before .before .before .before .before .before .before .before .before .before .before .before .before .before .before .before .before .minus-more .given)
-    (λ c. search needs)
-    (λ c. search needs)
-    (λ c. search needs)
-    (λ c. search needs))
+    (λ c. c .before .before .before .before .before .walked .given)
+    (λ c. c .before .before .before .wires .given)
+    (λ c. c .before .offsets .given)
+    (λ c. c .before .before .before .before .before .before .answer .ensures))

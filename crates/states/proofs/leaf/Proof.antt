@@ -8,10 +8,10 @@ returns : tie.Need-returns
 returns c = (leaf-other _ _ _ _ (c .if1 .taken), tt)
 
 returns-2 : tie.Need-returns-2
-returns-2 c = (leaf-over _ _ _ _ (c .if2 .taken), tt)
+returns-2 c = (leaf-over _ _ _ _ (omega arith), tt)
 
 returns-3 : tie.Need-returns-3
-returns-3 c = (leaf-fits _ _ _ _ (omega arith) (c .if2 .left), (omega arith, omega arith, omega arith))
+returns-3 c = (leaf-fits _ _ _ _ (omega arith) (omega arith), (omega arith, omega arith, omega arith))
 
 pub leaf-spec : {M : Type 1} → statement M
 leaf-spec = tie.close (tie.spec returns returns-2 returns-3)
