@@ -23,8 +23,8 @@
  *    11   a driver, an entry or the source, sees more than the load limit
  *    12   inverters: the sinks' polarities do not agree
  *
- * Stack: the deeper the net, the more, about 300 bytes for each node on the longest way down and 50,000 besides. Measured at most:
- * 346,000 bytes, on a chain of 1,024 nodes without entries. A thread with 512 KiB of stack is enough.
+ * Stack: the deeper the net, the more, about 150 bytes for each node on the longest way down and 51,000 besides. Measured at most:
+ * 198,000 bytes, on a chain of 1,024 nodes without entries. A thread with 256 KiB of stack is enough.
  *
  * Link with librouter.a, which `rt staticlib router` writes to target/staticlib/ for x86-64. It calls memcpy and memset and
  * nothing else.

@@ -32,7 +32,7 @@ static void expect(const char *what, uint32_t want, uint32_t have)
 
 /* ------------------------------------------------------------ the deepest net on a small stack */
 
-enum { WIRES = 1024, STACK = 512 * 1024 };
+enum { WIRES = 1024, STACK = 256 * 1024 };
 
 static uint8_t chain[12 + 9 * (WIRES - 1) + 14 + 3];
 
@@ -99,7 +99,7 @@ int main(void)
     expect("no net file", 1, mustorgyel_check(NULL, 0, none, 8));
     expect("no placement file", 1, mustorgyel_check(net, 29, NULL, 0));
     expect("neither", 1, mustorgyel_check(NULL, 0, NULL, 0));
-    expect("the deepest net on a stack of 512 kB", 0, on_small_stack());
+    expect("the deepest net on a stack of 256 KiB", 0, on_small_stack());
     printf("the router's call from C: as document 01 says\n");
     return 0;
 }
