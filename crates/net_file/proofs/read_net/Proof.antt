@@ -10,6 +10,10 @@ use Rattle.net_file.proofs.Reading.{read-refused, read-few, read-short,
 use Rattle.net_file.proofs.read_net.Statement.{statement}
 use Rattle.net_file.proofs.read_net.Tie as tie
 
+-- the judge is lent our own columns, which are blank
+judge-file-requires : tie.Need-judge-file-requires
+judge-file-requires c κs = search needs
+
 returns-2 : tie.Need-returns-2
 returns-2 c =
     let a = c .before .before .before .before .before .before .before .before .before .before .before .before .before .before .before .before .before .before .before .before .before .before .args in
@@ -38,7 +42,7 @@ read-net-spec =
     (λ c. search needs)
     (λ c. search needs)
     (λ c. search needs)
-    (λ c κs. search needs)
+    judge-file-requires
     (λ c. search needs)
     (λ c. search needs)
     (λ c. let a = c .before .before .before .before .before .before .before .before .before .before .before .before .before .before .before .before .before .before .before .args in read-refused (now (a .s)) (netAt unlimited (a .parent) (a .wire) (a .kind) (a .pin) (a .polarity)) (c .before .before .before .before .before .before .before .judge-file .ensures) _ (c .enum-told .given .1))
