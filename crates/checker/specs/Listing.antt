@@ -9,6 +9,7 @@ use Rattle.net.specs.declared.Judged.{Judged}
 use Rattle.net.specs.declared.Judged.the-variants.{Sound, Refused}
 use Rattle.net.specs.declared.Refusal.the-variants.{NoRoom}
 use Rattle.net.specs.Net.{Net}
+use Rattle.net.specs.Refusal.{numberOf, placeOf}
 use Rattle.net.specs.Load.{entries, offsetsOn, driven, sourceDrives}
 use Rattle.net.specs.Judge.{unless, thenJudge}
 use Rattle.checker.specs.Stands.{begun}
@@ -21,6 +22,21 @@ listJudged n vs os room = thenJudge (begun n vs os) (unless (leb (length vs) roo
 abbrev pub listedOf : Judged → ℕ → ℕ → Listed
 listedOf Sound count source = lists.Driven count source
 listedOf (Refused r) count source = lists.Refused r
+
+-- 0 for a list, or the refusal's number
+abbrev pub listedNumber : Listed → ℕ
+listedNumber (lists.Driven count source) = 0
+listedNumber (lists.Refused r) = numberOf r
+
+-- the count, or the refusal's place
+abbrev pub listedCount : Listed → ℕ
+listedCount (lists.Driven count source) = count
+listedCount (lists.Refused r) = placeOf r
+
+-- the source's load, or what stood there before
+abbrev pub listedSource : Listed → ℕ → ℕ
+listedSource (lists.Driven count source) before = source
+listedSource (lists.Refused r) before = before
 
 -- what the lent column holds afterwards: a refusal leaves it as it came
 abbrev pub columnAfter : Judged → List ℕ → List ℕ → List ℕ

@@ -8,7 +8,7 @@ use lib.ListN.{length}
 use Rattle.net.specs.declared.Judged.{Judged}
 use Rattle.net.specs.declared.Judged.the-variants.{Sound, Refused}
 use Rattle.net.specs.declared.Refusal.the-variants.{Overloaded}
-use Rattle.net.specs.Refusal.{numberOf}
+use Rattle.net.specs.Refusal.{numberOf, placeOf}
 use Rattle.net.specs.Net.{Net}
 use Rattle.net.specs.Load.{entries, offsetsOn, sourceDrives, drivers}
 use Rattle.net.specs.Legal.{Legal}
@@ -25,6 +25,16 @@ verdictOf (Refused r) count source = verdicts.Refused r
 abbrev pub verdictNumber : Verdict → ℕ
 verdictNumber (verdicts.Legal count source) = 0
 verdictNumber (verdicts.Refused r) = numberOf r
+
+-- the count, or the refusal's place
+abbrev pub verdictCount : Verdict → ℕ
+verdictCount (verdicts.Legal count source) = count
+verdictCount (verdicts.Refused r) = placeOf r
+
+-- the source's load, or what stood there before
+abbrev pub verdictSource : Verdict → ℕ → ℕ
+verdictSource (verdicts.Legal count source) before = source
+verdictSource (verdicts.Refused r) before = before
 
 -- 11 for the source, and then 12
 abbrev pub settled : Net → List ℕ → List ℕ → Verdict

@@ -3,21 +3,10 @@ use Prim.Native.Nat.{ℕ}
 use mathlib.Core.Path.{_≡_}
 use mathlib.Core.List.{List}
 use Rattle.net.specs.Net.{Net}
-use Rattle.net.specs.Refusal.{numberOf, placeOf}
 use Rattle.checker.specs.declared.Verdict.{Verdict}
-use Rattle.checker.specs.declared.Verdict.the-variants as verdicts
 use Rattle.checker.specs.declared.Listed.{Listed}
-use Rattle.checker.specs.declared.Listed.the-variants as lists
-use Rattle.checker.specs.Verdict.{verdictNumber, verdict}
-use Rattle.checker.specs.Listing.{ListedIs}
-
-abbrev pub verdictCount : Verdict → ℕ
-verdictCount (verdicts.Legal count source) = count
-verdictCount (verdicts.Refused r) = placeOf r
-
-abbrev pub verdictSource : Verdict → ℕ → ℕ
-verdictSource (verdicts.Legal count source) before = source
-verdictSource (verdicts.Refused r) before = before
+use Rattle.checker.specs.Verdict.{verdictNumber, verdictCount, verdictSource, verdict}
+use Rattle.checker.specs.Listing.{listedNumber, listedCount, listedSource, ListedIs}
 
 pub record Checks (n : Net) (vs os : List ℕ) (before after : ℕ) (number place : ℕ) : Type 0 where
   pub said : Verdict
@@ -25,18 +14,6 @@ pub record Checks (n : Net) (vs os : List ℕ) (before after : ℕ) (number plac
   pub source : after ≡ verdictSource said before
   pub told : number ≡ verdictNumber said
   pub left : place ≡ verdictCount said
-
-abbrev pub listedNumber : Listed → ℕ
-listedNumber (lists.Driven count source) = 0
-listedNumber (lists.Refused r) = numberOf r
-
-abbrev pub listedCount : Listed → ℕ
-listedCount (lists.Driven count source) = count
-listedCount (lists.Refused r) = placeOf r
-
-abbrev pub listedSource : Listed → ℕ → ℕ
-listedSource (lists.Driven count source) before = source
-listedSource (lists.Refused r) before = before
 
 pub record Lists (n : Net) (vs os out filled : List ℕ) (before after : ℕ) (number place : ℕ) : Type 0 where
   pub said : Listed

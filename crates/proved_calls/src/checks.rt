@@ -5,8 +5,9 @@ use net::Limits;
 ghost use mathlib.Core.Path.{_≡_};
 ghost use Rattle.net.specs.Net.{netAt};
 ghost use Rattle.proved_calls.specs.Answers.{limitsOf};
-ghost use Rattle.checker.specs.Verdict.{verdictNumber};
-ghost use Rattle.proved_calls.specs.Checks.{verdictCount, verdictSource, Checks, listedNumber, listedCount, listedSource, Lists};
+ghost use Rattle.checker.specs.Verdict.{verdictNumber, verdictCount, verdictSource};
+ghost use Rattle.checker.specs.Listing.{listedNumber, listedCount, listedSource};
+ghost use Rattle.proved_calls.specs.Checks.{Checks, Lists};
 
 fn verdict_number(said: Verdict) -> u32
     ensures { λ n. ⌜ n ≡ verdictNumber said ⌝ }
