@@ -8,10 +8,14 @@ use Rattle.solver.proofs.place.Statement.{statement}
 use Rattle.solver.proofs.place.Tie as tie
 
 slice-write-walked : tie.Need-slice-write-walked
-slice-write-walked c = let s = c .before .before .before .before .before .before .before .before .before .before .before .before .before .before .before .before .before .before in omega (arith, s .pre .0 .1 .some, s .pre .1 .0)
+slice-write-walked c =
+    let s = c .before .before .before .before .before .before .before .before .before .before .before .before .before .before .before .before .before .before in
+    omega (arith, s .pre .0 .1 .some, s .pre .1 .0)
 
 slice-write-walked-2 : tie.Need-slice-write-walked-2
-slice-write-walked-2 c = let s = c .before .before .before .before .before .before .before .before .before .before .before .before .before .before .before .before .before .before in simp length-set (omega (arith, s .pre .0 .1 .some, s .pre .1 .0))
+slice-write-walked-2 c =
+    let s = c .before .before .before .before .before .before .before .before .before .before .before .before .before .before .before .before .before .before in
+    simp length-set (omega (arith, s .pre .0 .1 .some, s .pre .1 .0))
 
 descend-requires : tie.Need-descend-requires
 descend-requires c κs =

@@ -20,7 +20,9 @@ abbrev μ-loop : tie.MeasureT-loop
 μ-loop c parent wire kind pin polarity rows₀ many₀ next₀ head₀ plus₀ plus-load₀ plus-more₀ minus₀ minus-load₀ minus-more₀ i₀ rows many next head plus plus-load plus-more minus minus-load minus-more i = i
 
 loop-holds : tie.Need-loop-holds Inv-loop μ-loop
-loop-holds c = let s = c .before .before .before .before .before .before .before .before .before .before .before .before .before .before .before in (s .pre .0 .1 .some, omega arith, s .pre .1, search needs)
+loop-holds c =
+    let s = c .before .before .before .before .before .before .before .before .before .before .before .before .before .before .before in
+    (s .pre .0 .1 .some, omega arith, s .pre .1, search needs)
 
 push-requires : tie.Need-push-requires Inv-loop μ-loop
 push-requires c κs =
