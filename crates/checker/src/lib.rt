@@ -10,7 +10,7 @@ ghost use lib.Seq.{sets};
 ghost use Rattle.net.specs.Figures.{mostPlaces};
 ghost use Rattle.net.specs.Choose.{both};
 ghost use Rattle.net.specs.Net.{Net, netAt, places};
-ghost use Rattle.net.specs.Load.{driven};
+ghost use Rattle.net.specs.Load.{driven, sourceDrives};
 ghost use Rattle.net.specs.Sound.{SoundNet};
 ghost use Rattle.net.specs.Checked.{onItsWire, notLower, withinLimit, firstSink, oneSense};
 ghost use Rattle.load.specs.Tables.{Clear, Tables};
@@ -338,6 +338,57 @@ fn settle(
     }
 }
 
+// 11 for the entries, and then what is left, over the tables of the loads.
+fn weigh_over(
+    limits: Limits,
+    parent: &[u16],
+    wire: &[u32],
+    kind: &[u8],
+    pin: &[u32],
+    polarity: &[u8],
+    wires: &[u16],
+    offsets: &[u32],
+    own: &[u32; load::PLACES],
+    shut: &[u8; load::PLACES],
+    gap: &[u16; load::PLACES],
+    reach: &[u16; load::PLACES],
+) -> Verdict
+    requires { ⌜ Weighable (netAt limits parent wire kind pin polarity) (now wires) (now offsets) (now own) (now shut) (now gap) (now reach) ⌝ }
+    ensures { λ r. ⌜ r ≡ weighed (netAt limits (parent .entry) (wire .entry) (kind .entry) (pin .entry) (polarity .entry)) (now (wires .entry)) (now (offsets .entry)) ⌝ }
+{
+    let loads = entries_within_limit(
+        limits,
+        parent,
+        wire,
+        kind,
+        pin,
+        polarity,
+        wires,
+        offsets,
+        own,
+        shut,
+        gap,
+        reach,
+    );
+    if let Judged::Refused(r) = loads {
+        return Verdict::Refused(r);
+    }
+    settle(
+        limits,
+        parent,
+        wire,
+        kind,
+        pin,
+        polarity,
+        wires,
+        offsets,
+        own,
+        shut,
+        gap,
+        reach,
+    )
+}
+
 // 11 and 12 for a placement that stands on a sound net.
 fn weigh(
     limits: Limits,
@@ -370,24 +421,7 @@ fn weigh(
         &mut gap,
         &mut reach,
     );
-    let loads = entries_within_limit(
-        limits,
-        parent,
-        wire,
-        kind,
-        pin,
-        polarity,
-        wires,
-        offsets,
-        &own,
-        &shut,
-        &gap,
-        &reach,
-    );
-    if let Judged::Refused(r) = loads {
-        return Verdict::Refused(r);
-    }
-    settle(
+    weigh_over(
         limits,
         parent,
         wire,
@@ -465,14 +499,8 @@ fn fill_drives(
     }
 }
 
-// What the list of loads says.
-pub enum Listed {
-    Driven { count: usize, source: u64 },
-    Refused(Refusal),
-}
-
-// Lists what each entry drives, in list order, and the source's load: the net's refusals, 7, 10, 9. An overloaded placement is listed too.
-pub fn list_drives(
+// What each entry drives into a column that has room, and the source's load.
+fn list_loads(
     limits: Limits,
     parent: &[u16],
     wire: &[u32],
@@ -482,17 +510,11 @@ pub fn list_drives(
     wires: &[u16],
     offsets: &[u32],
     out: &mut [u64],
-) -> Listed
-    ensures { λ r. ⌜ ListedIs (netAt limits (parent .entry) (wire .entry) (kind .entry) (pin .entry) (polarity .entry)) (now (wires .entry)) (now (offsets .entry)) (now (out .entry)) r (now (out .exit)) ⌝ }
+) -> u64
+    requires { ⌜ Placed (netAt limits parent wire kind pin polarity) (now wires) (now offsets) × (length (now wires) ≤ length (now out)) ⌝ }
+    ensures { λ r. ⌜ r ≡ sourceDrives (netAt limits (parent .entry) (wire .entry) (kind .entry) (pin .entry) (polarity .entry)) (offsetsAt (wires .entry) (offsets .entry)) ⌝ }
+    ensures { λ _. ⌜ now (out .exit) ≡ sets (now (out .entry)) 0 (driven (netAt limits (parent .entry) (wire .entry) (kind .entry) (pin .entry) (polarity .entry)) (offsetsAt (wires .entry) (offsets .entry))) ⌝ }
 {
-    let begun = begin(limits, parent, wire, kind, pin, polarity, wires, offsets);
-    if let Judged::Refused(r) = begun {
-        return Listed::Refused(r);
-    }
-    let count = wires.len();
-    if out.len() < count {
-        return Listed::Refused(Refusal::NoRoom(count as u64));
-    }
     let mut own = [0u32; load::PLACES];
     let mut shut = [0u8; load::PLACES];
     let mut gap = [0u16; load::PLACES];
@@ -526,7 +548,48 @@ pub fn list_drives(
         &reach,
         out,
     );
-    let source = load::load_below(parent, &own, &shut, &gap, &reach, 0);
+    load::load_below(parent, &own, &shut, &gap, &reach, 0)
+}
+
+// What the list of loads says.
+pub enum Listed {
+    Driven { count: usize, source: u64 },
+    Refused(Refusal),
+}
+
+// Lists what each entry drives, in list order, and the source's load: the net's refusals, 7, 10, 9. An overloaded placement is listed too.
+pub fn list_drives(
+    limits: Limits,
+    parent: &[u16],
+    wire: &[u32],
+    kind: &[u8],
+    pin: &[u32],
+    polarity: &[u8],
+    wires: &[u16],
+    offsets: &[u32],
+    out: &mut [u64],
+) -> Listed
+    ensures { λ r. ⌜ ListedIs (netAt limits (parent .entry) (wire .entry) (kind .entry) (pin .entry) (polarity .entry)) (now (wires .entry)) (now (offsets .entry)) (now (out .entry)) r (now (out .exit)) ⌝ }
+{
+    let begun = begin(limits, parent, wire, kind, pin, polarity, wires, offsets);
+    if let Judged::Refused(r) = begun {
+        return Listed::Refused(r);
+    }
+    let count = wires.len();
+    if out.len() < count {
+        return Listed::Refused(Refusal::NoRoom(count as u64));
+    }
+    let source = list_loads(
+        limits,
+        parent,
+        wire,
+        kind,
+        pin,
+        polarity,
+        wires,
+        offsets,
+        out,
+    );
     Listed::Driven {
         count: count,
         source: source,
