@@ -63,7 +63,7 @@ scan-start {n} offs {v} after l h f k = record {
 
 -- the search may go on from any node
 pub searched : (n : Net) {parents : List ℕ} → n .parents ≡ parents → SoundNet n → {v after : ℕ} → v < places n → after < places n → Searched parents v after
-searched n column s h l = rw (← column) (record { few = s .few; node = h; within = l; lower = s .lower })
+searched n column s h l = rw (← column) (record { ordered = record { some = s .some; few = s .few; lower = s .lower }; node = h; within = l })
 
 -- what next_child answered, taken apart by its constructor, over the column that it looked at
 module _ (n : Net) {parents : List ℕ} (column : n .parents ≡ parents) (v after : ℕ) (r : Found) (x : NextIs parents v after r) where

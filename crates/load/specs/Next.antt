@@ -13,12 +13,11 @@ pub record Parents (parents : List ℕ) : Type 0 where
   pub few : length parents ≤ mostPlaces
   pub lower : (i : ℕ) → 1 ≤ i → i < length parents → getD parents i 0 < i
 
--- "A parent's number is lower than its child's", and the search for a child of v goes on from a node of the net
+-- the search for a child of v goes on from a node of the net
 pub record Searched (parents : List ℕ) (v after : ℕ) : Type 0 where
-  pub few : length parents ≤ mostPlaces
+  pub ordered : Parents parents
   pub node : v < length parents
   pub within : after < length parents
-  pub lower : (i : ℕ) → 1 ≤ i → i < length parents → getD parents i 0 < i
 
 -- none of the nodes from i up to j has v for its parent
 abbrev pub NoneFrom : List ℕ → ℕ → ℕ → ℕ → Type 0

@@ -14,7 +14,7 @@ abbrev μ-loop : tie.MeasureT-loop
 μ-loop parent node after wanted next j₀ j = length parent - j
 
 cast-wanted : tie.Need-cast-wanted Inv-loop μ-loop
-cast-wanted c = omega (arith, c .before .pre .few, c .before .pre .node)
+cast-wanted c = omega (arith, c .before .pre .ordered .few, c .before .pre .node)
 
 add-next : tie.Need-add-next Inv-loop μ-loop
 add-next c = omega arith
