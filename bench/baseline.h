@@ -32,5 +32,9 @@ struct answer c_solve(const struct limits *limits, const struct columns *net,
 struct answer c_check(const struct limits *limits, const struct columns *net,
                       const uint16_t *wire, const uint32_t *offset, size_t entries,
                       uint64_t *source);
+/* Type 0 alone. `given` is kept; what is added goes into `wire` and `offset`. */
+struct answer c_finish(const struct limits *limits, const struct columns *net,
+                       const uint16_t *given, const uint32_t *given_offset, size_t givens,
+                       uint16_t *wire, uint32_t *offset, size_t room);
 
 #endif

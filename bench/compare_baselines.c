@@ -140,9 +140,180 @@ static void try_largest(struct chance *chance, enum shape shape)
         fail("solver's largest count", &net);
 }
 
+/* ------------------------------------------------------------ finishing
+
+   A given buffer cuts the net: what hangs below it is a net with the buffer for its source, and
+   to what lies above it is a sink of pin C_b. The pieces are solved apart by the reference. */
+
+static size_t join_node(struct ref_net *piece, size_t parent, uint32_t wire, uint8_t kind,
+                        uint32_t pin)
+{
+    size_t node = piece->nodes++;
+    piece->parent[node] = (uint16_t)parent;
+    piece->wire[node] = wire;
+    piece->kind[node] = kind;
+    piece->pin[node] = pin;
+    return node;
+}
+
+/* The offset of the topmost entry on a wire, or -1. */
+static int64_t topmost(const struct ref_placement *given, size_t wire)
+{
+    int64_t top = -1;
+    for (size_t entry = 0; entry < given->entries; entry++)
+        if (given->wire[entry] == wire)
+            top = given->offset[entry];
+    return top;
+}
+
+/* All that hangs from a node, which is node `at` of the piece, as far as the next given ones. */
+static void hang(struct ref_net *piece, const struct ref_net *net,
+                 const struct ref_placement *given, size_t node, size_t at)
+{
+    for (size_t wire = node + 1; wire < net->nodes; wire++) {
+        int64_t top = topmost(given, wire);
+        if (net->parent[wire] != node)
+            continue;
+        if (top >= 0)
+            join_node(piece, at, net->wire[wire] - (uint32_t)top, 1, net->limits.pin);
+        else
+            hang(piece, net, given, wire,
+                 join_node(piece, at, net->wire[wire], net->kind[wire], net->pin[wire]));
+    }
+}
+
+/* What hangs below a given entry, or below the source for the number of entries. */
+static int64_t least_below(const struct ref_net *net, const struct ref_placement *given,
+                           size_t entry)
+{
+    static struct ref_net piece;
+    memset(&piece, 0, sizeof piece);
+    piece.limits = net->limits;
+    piece.nodes = 1;
+    if (entry == given->entries) {
+        hang(&piece, net, given, 0, 0);
+    } else if (entry > 0 && given->wire[entry - 1] == given->wire[entry]) {
+        join_node(&piece, 0, given->offset[entry] - given->offset[entry - 1], 1, net->limits.pin);
+    } else {
+        size_t node = given->wire[entry];
+        hang(&piece, net, given, node,
+             join_node(&piece, 0, given->offset[entry], net->kind[node], net->pin[node]));
+    }
+    return ref_least_frontier(&piece, NULL);
+}
+
+static int64_t least_added(const struct ref_net *net, const struct ref_placement *given)
+{
+    int64_t sum = 0;
+    for (size_t entry = 0; entry <= given->entries; entry++) {
+        int64_t least = least_below(net, given, entry);
+        if (least == REF_NONE)
+            return REF_NONE;
+        sum += least;
+    }
+    return sum;
+}
+
+/* The call on columns that hold 7 everywhere; no place past the answer may be touched. */
+static struct answer finished(struct ref_net *net, const struct ref_placement *given,
+                              struct ref_placement *added, size_t room)
+{
+    struct limits limits = limits_of(net);
+    struct columns columns = columns_of(net);
+    for (size_t i = 0; i < REF_ENTRIES; i++)
+        added->offset[i] = added->wire[i] = 7;
+    struct answer answer = c_finish(&limits, &columns, given->wire, given->offset, given->entries,
+                                    added->wire, added->offset, room);
+    added->entries = answer.number == 0 ? (size_t)answer.place : 0;
+    for (size_t i = added->entries; i < REF_ENTRIES; i++)
+        if (added->offset[i] != 7 || added->wire[i] != 7)
+            fail("finishing's columns", net);
+    return answer;
+}
+
+/* Given and added together, which may be more than a placement holds: then only the added. */
+static void try_whole(const struct ref_net *net, const struct ref_placement *given,
+                      const struct ref_placement *added)
+{
+    static struct ref_placement whole;
+    whole = *given;
+    if (ref_list_drives(net, added->wire, added->entries, added->offset, added->entries, NULL,
+                        NULL).number != 0)
+        fail("finishing's order", net);
+    if (given->entries + added->entries > REF_ENTRIES)
+        return;
+    for (size_t i = 0; i < added->entries; i++)
+        put_in(&whole, added->wire[i], added->offset[i]);
+    if (!is_legal(net, &whole))
+        fail("finishing's placement", net);
+}
+
+static void try_finish(struct ref_net *net, const struct ref_placement *given, long *done)
+{
+    static struct ref_placement added;
+    struct answer answer = finished(net, given, &added, REF_ENTRIES);
+    struct ref_answer judged = ref_list_drives(net, given->wire, given->entries, given->offset,
+                                               given->entries, NULL, NULL);
+    if (net->limits.type == 1)
+        judged = (struct ref_answer){3, 0};
+    if (judged.number == 0) {
+        int64_t least = least_added(net, given);
+        judged.number = least == REF_NONE ? 8 : least > REF_ENTRIES ? 9 : 0;
+        judged.place = least == REF_NONE ? 0 : (uint64_t)least;
+    }
+    if (answer.number != judged.number || answer.place != judged.place)
+        fail("finishing", net);
+    if (answer.number != 0)
+        return;
+    try_whole(net, given, &added);
+    *done += 1;
+    if (answer.place > 0 && finished(net, given, &added, (size_t)answer.place - 1).number != 9)
+        fail("finishing's room", net);
+}
+
+/* Entries anywhere, with some doubled and some at a wire's ends; then one of them changed. */
+static void try_givens(struct chance *chance, struct ref_net *net, long *done)
+{
+    static struct ref_placement given;
+    random_entries(chance, net, &given, chance_upto(chance, 7));
+    for (size_t i = given.entries; i > 0 && chance_upto(chance, 1) == 0; i--)
+        put_in(&given, given.wire[i - 1], given.offset[i - 1]);
+    for (size_t i = 0; i < 2; i++) {
+        uint16_t wire = (uint16_t)(1 + chance_upto(chance, (uint32_t)net->nodes - 2));
+        if (chance_upto(chance, 2) == 0)
+            put_in(&given, wire, i == 0 ? 0 : net->wire[wire]);
+    }
+    try_finish(net, &given, done);
+    perturb(chance, &given);
+    try_finish(net, &given, done);
+}
+
+/* C_U 1, C_b 0: a count far over 4,096, whatever the room; and 4,096 given ones, which leave the
+   added their room. */
+static void try_extremes(void)
+{
+    static struct ref_net net;
+    static struct ref_placement given = {1, {1}, {5000000}}, added;
+    net = (struct ref_net){.limits = {.limit = 1}, .nodes = 2, .wire = {0, 10000000},
+                           .kind = {0, 1}};
+    struct answer answer = finished(&net, &given, &added, SIZE_MAX);
+    if (answer.number != 9 || answer.place != 9999998)
+        fail("finishing's largest count", &net);
+    net.limits = (struct ref_limits){.limit = 10, .pin = 2};
+    net.wire[1] = 14;
+    net.pin[1] = 4;
+    for (given.entries = 0; given.entries < REF_ENTRIES; )
+        put_in(&given, 1, 5);
+    answer = finished(&net, &given, &added, 1);
+    if (answer.number != 0 || answer.place != 1 || added.wire[0] != 1)
+        fail("finishing beside 4,096", &net);
+}
+
+/* ------------------------------------------------------------ all of it */
+
 static void run(struct chance *chance, struct size size, long nets)
 {
-    long legal = 0, worse = 0;
+    long legal = 0, worse = 0, done = 0;
     for (long i = 0; i < nets; i++) {
         static struct ref_net net;
         random_net(chance, &net, size);
@@ -150,9 +321,10 @@ static void run(struct chance *chance, struct size size, long nets)
         try_one_label(&net, &worse);
         try_placements(chance, &net, &legal);
         try_reader(chance, &net);
+        try_givens(chance, &net, &done);
     }
-    printf("%ld nets of up to %u wires, %ld with a legal placement: same answers; "
-           "one label a polarity does not do for %ld\n", nets, size.wires, legal, worse);
+    printf("%ld nets of up to %u wires, %ld with a legal placement, %ld finished: same answers; "
+           "one label a polarity does not do for %ld\n", nets, size.wires, legal, done, worse);
 }
 
 int main(int count, char **word)
@@ -161,6 +333,7 @@ int main(int count, char **word)
     struct chance chance = {4711};
     for (enum shape shape = CHAIN; shape < SHAPES; shape++)
         try_largest(&chance, shape);
+    try_extremes();
     run(&chance, (struct size){.wires = 6, .limit = 9, .wire = 4, .pin = 5}, nets);
     run(&chance, (struct size){.wires = 14, .limit = 40, .wire = 60, .pin = 15}, nets);
     run(&chance, (struct size){.wires = 14, .limit = 40, .wire = 6, .pin = 8}, nets);

@@ -1,6 +1,8 @@
 /* Time for each call on nets of the paper's kind, on chains and on stars: microseconds a call,
-   the best of many rounds. To set another implementation beside the plain C, write three
-   functions of the types below and add a line to `contenders`; its answers are compared, too. */
+   the best of many rounds. To set another implementation beside the plain C, write four
+   functions of the types below and add a line to `contenders`; its answers are compared, too.
+
+     measure [CALL]                     all calls, or one of read, solve, check, finish */
 #define _POSIX_C_SOURCE 199309L
 #include "paper_nets.h"
 
@@ -17,15 +19,24 @@ typedef struct answer solver(const struct limits *limits, const struct columns *
 typedef struct answer checker(const struct limits *limits, const struct columns *net,
                               const uint16_t *wire, const uint32_t *offset, size_t entries,
                               uint64_t *source);
+typedef struct answer finisher(const struct limits *limits, const struct columns *net,
+                               const uint16_t *given, const uint32_t *given_offset, size_t givens,
+                               uint16_t *wire, uint32_t *offset, size_t room);
 
-struct contender { const char *name; reader *read; solver *solve; checker *check; };
+struct contender {
+    const char *name;
+    reader *read;
+    solver *solve;
+    checker *check;
+    finisher *finish;
+};
 
 #ifdef MORE_CONTENDERS
 #include MORE_CONTENDERS                 /* declares the functions and defines CONTENDERS */
 #endif
 
 static const struct contender contenders[] = {
-    {"plain C", c_read_net, c_solve, c_check},
+    {"plain C", c_read_net, c_solve, c_check, c_finish},
 #ifdef MORE_CONTENDERS
     CONTENDERS
 #endif
@@ -41,12 +52,20 @@ struct work {
     uint32_t offset[ENTRIES], found_offset[ENTRIES];
 };
 
-enum call { READ, SOLVE, CHECK };
+enum call { READ, SOLVE, CHECK, FINISH };
+
+static const char *const CALL[] = {"read", "solve", "check", "finish"};
+
+static const char *only;                 /* the one call to measure; NULL for all */
 
 static bool has(const struct contender *who, enum call call)
 {
-    return call == READ ? who->read != NULL : call == SOLVE ? who->solve != NULL
-                                                            : who->check != NULL;
+    switch (call) {
+    case READ: return who->read != NULL;
+    case SOLVE: return who->solve != NULL;
+    case CHECK: return who->check != NULL;
+    default: return who->finish != NULL;
+    }
 }
 
 static struct answer once(const struct contender *who, enum call call, struct work *w)
@@ -58,8 +77,11 @@ static struct answer once(const struct contender *who, enum call call, struct wo
         return who->read(w->file, w->length, &limits, &w->filled.columns);
     case SOLVE:
         return who->solve(&w->net.limits, &w->net.columns, w->found_wire, w->found_offset, ENTRIES);
-    default:
+    case CHECK:
         return who->check(&w->net.limits, &w->net.columns, w->wire, w->offset, w->entries, &source);
+    default:
+        return who->finish(&w->net.limits, &w->net.columns, w->wire, w->offset, w->entries,
+                           w->found_wire, w->found_offset, ENTRIES);
     }
 }
 
@@ -93,13 +115,15 @@ static void print_cell(bool there, double figure)
         printf(" - |");
 }
 
-/* Rounds of all contenders take turns, so that a disturbance meets them alike. */
-static void measure(const char *what, enum call call, struct work *w)
+/* Nothing that is refused is worth a time, and all have to answer the same. */
+static struct answer agreed(const char *what, enum call call, struct work *w)
 {
-    double best[CONTENDING];
     struct answer first = once(&contenders[0], call, w);
-    for (int i = 0; i < CONTENDING; i++) {
-        best[i] = 1e30;
+    if (first.number != 0) {
+        printf("%s: refused %" PRIu32 " at %" PRIu64 "\n", what, first.number, first.place);
+        exit(1);
+    }
+    for (int i = 1; i < CONTENDING; i++) {
         if (!has(&contenders[i], call))
             continue;
         struct answer other = once(&contenders[i], call, w);
@@ -108,6 +132,18 @@ static void measure(const char *what, enum call call, struct work *w)
             exit(1);
         }
     }
+    return first;
+}
+
+/* Rounds of all contenders take turns, so that a disturbance meets them alike. */
+static void measure(const char *what, enum call call, struct work *w)
+{
+    double best[CONTENDING];
+    if (only != NULL && strcmp(only, CALL[call]) != 0)
+        return;
+    struct answer first = agreed(what, call, w);
+    for (int i = 0; i < CONTENDING; i++)
+        best[i] = 1e30;
     for (int round = 0; round < ROUNDS; round++)
         for (int i = 0; i < CONTENDING; i++) {
             double time = has(&contenders[i], call) ? round_of(&contenders[i], call, w) : 1e30;
@@ -177,6 +213,39 @@ static void checks(struct work *w, enum form form, uint32_t nodes)
     }
 }
 
+/* Entries on wires and at offsets by chance, in order. */
+static void scatter_entries(struct work *w, size_t entries)
+{
+    struct chance chance = {entries};
+    uint32_t wires = (uint32_t)w->net.columns.places - 1;
+    for (w->entries = 0; w->entries < entries; w->entries++) {
+        uint16_t wire = (uint16_t)(1 + chance_upto(&chance, wires - 1));
+        uint32_t offset = chance_upto(&chance, w->net.wire[wire]);
+        size_t at = w->entries;
+        for (; at > 0 && (w->wire[at - 1] > wire
+                          || (w->wire[at - 1] == wire && w->offset[at - 1] > offset)); at--) {
+            w->wire[at] = w->wire[at - 1];
+            w->offset[at] = w->offset[at - 1];
+        }
+        w->wire[at] = wire;
+        w->offset[at] = offset;
+    }
+}
+
+/* Eight pins are within the limit, and so is every sink: whatever is given, it can be finished. */
+static void finishes(struct work *w, uint32_t nodes, uint32_t limit)
+{
+    char what[80];
+    set_up(w, POINTS, nodes, limit, 0);
+    for (int i = 0; i < 3; i++) {
+        size_t given = (size_t[]){0, 10, 1000}[i];
+        scatter_entries(w, given);
+        snprintf(what, sizeof what, "finish, %s, %u nodes, C_U %u, %zu given", FORM[POINTS], nodes,
+                 limit, given);
+        measure(what, FINISH, w);
+    }
+}
+
 static void all_calls(struct work *w, enum form form, uint32_t nodes)
 {
     char what[80];
@@ -188,9 +257,10 @@ static void all_calls(struct work *w, enum form form, uint32_t nodes)
     checks(w, form, nodes);
 }
 
-int main(void)
+int main(int count, char **word)
 {
     static struct work w;
+    only = count > 1 ? word[1] : NULL;
     printf("| Call | Answer |");
     for (int i = 0; i < CONTENDING; i++)
         printf(" %s, us |", contenders[i].name);
@@ -204,5 +274,7 @@ int main(void)
         all_calls(&w, POINTS, (uint32_t[]){128, 330, 830, 1024}[i]);
     all_calls(&w, CHAIN_NET, 1024);
     all_calls(&w, STAR_NET, 1024);
+    finishes(&w, 330, 30000);
+    finishes(&w, 1024, 30000);
     return 0;
 }

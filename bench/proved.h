@@ -33,4 +33,15 @@ static struct answer proved_checker(const struct limits *limits, const struct co
     return answer;
 }
 
-#define CONTENDERS {"proved", proved_reader, proved_solver, proved_checker},
+static struct answer proved_finisher(const struct limits *limits, const struct columns *net,
+                                     const uint16_t *given, const uint32_t *given_offset,
+                                     size_t givens, uint16_t *wire, uint32_t *offset, size_t room)
+{
+    struct answer answer;
+    answer.number = proved_finish(limits->limit, limits->pin, limits->type, PROVED_COLUMNS(net),
+                                  given, givens, given_offset, givens, wire, room, offset, room,
+                                  &answer.place);
+    return answer;
+}
+
+#define CONTENDERS {"proved", proved_reader, proved_solver, proved_checker, proved_finisher},

@@ -47,6 +47,9 @@ struct calls {
     struct ref_answer (*carry)(struct ref_limits first_limits, struct net_columns first,
                                struct ref_limits second_limits, struct net_columns second,
                                struct entry_columns placement, int *refused_net);
+    /* On success the added entries stand in the first places of `to`. */
+    struct ref_answer (*finish)(struct ref_limits limits, struct net_columns net,
+                                struct entry_columns given, struct entry_columns to);
 };
 
 extern const struct calls ref_calls;

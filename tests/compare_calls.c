@@ -1,6 +1,7 @@
 /* Every call of calls.h against the reference, on random files, columns and rooms from a fixed
    seed: the same number and place, and afterwards every byte of everything lent the same. Of the
-   solver's answer: legal, of the same count, and nothing else changed.
+   solver's answer: legal, of the same count, and nothing else changed. Of the finisher's: the same
+   of the added entries together with the given ones.
    Something under test comes in by
 
      cc -include adapters.h '-DMORE_CALLS=&my_calls,' ...       extern const struct calls my_calls;
@@ -16,10 +17,10 @@
 enum { COLUMN = 1032, LIST = 4104, FILE_ROOM = REF_PLACEMENT_BYTES + 32 };
 
 enum call { READ_NET, READ_PLACEMENT, WRITE_NET, WRITE_PLACEMENT, JUDGE, SOLVE, CHECK, DRIVES,
-            CARRY, CALLS };
+            CARRY, FINISH, CALLS };
 
 static const char *const NAME[] = {"read_net", "read_placement", "write_net", "write_placement",
-                                   "judge", "solve", "check", "drives", "carry"};
+                                   "judge", "solve", "check", "drives", "carry", "finish"};
 
 static const struct calls *const tried[] = {
     &ref_calls,
@@ -38,10 +39,13 @@ struct trial {
     uint8_t polarity[2][COLUMN];
     uint16_t entry_wire[LIST];
     uint32_t offset[LIST];
+    uint16_t given_wire[LIST];           /* to the finisher */
+    uint32_t given_offset[LIST];
     uint64_t drives[LIST], source;
     uint8_t file[FILE_ROOM];
     size_t long_as[2][5];                /* the columns' lengths */
     size_t wires, offsets, loads, bytes; /* the lengths of the others */
+    size_t given_wires, given_offsets;
     int refused_net;
 };
 
@@ -52,6 +56,12 @@ static struct net_columns columns_of(struct trial *t, int net)
     const size_t *n = t->long_as[net];
     return (struct net_columns){t->parent[net], t->wire[net], t->kind[net], t->pin[net],
                             t->polarity[net], n[0], n[1], n[2], n[3], n[4]};
+}
+
+static struct entry_columns given_to(struct trial *t)
+{
+    return (struct entry_columns){t->given_wire, t->given_offset, t->given_wires,
+                                  t->given_offsets};
 }
 
 static bool has(const struct calls *c, enum call call)
@@ -65,7 +75,8 @@ static bool has(const struct calls *c, enum call call)
     case SOLVE: return c->solve != NULL;
     case CHECK: return c->check != NULL;
     case DRIVES: return c->drives != NULL;
-    default: return c->carry != NULL;
+    case CARRY: return c->carry != NULL;
+    default: return c->finish != NULL;
     }
 }
 
@@ -83,6 +94,7 @@ static struct ref_answer run(const struct calls *c, enum call call, struct trial
     case CHECK: return c->check(t->limits[0], net, list, &t->source);
     case DRIVES:
         return c->drives(t->limits[0], net, list, t->drives, t->loads, &t->source);
+    case FINISH: return c->finish(t->limits[0], net, given_to(t), list);
     default:
         return c->carry(t->limits[0], net, t->limits[1], columns_of(t, 1), list, &t->refused_net);
     }
@@ -94,16 +106,46 @@ static void fail(const char *name, enum call call, const char *what)
     exit(1);
 }
 
-/* A solver may give another least placement. Where it is legal, the reference's takes its place. */
-static void judge_solution(const char *name, struct trial *have, const struct trial *want,
-                           uint64_t count)
+static void net_of(const struct trial *t, int which, struct ref_net *net)
 {
-    uint64_t source;
-    struct entry_columns list = {have->entry_wire, have->offset, (size_t)count, (size_t)count};
-    if (ref_calls.check(have->limits[0], columns_of(have, 0), list, &source).number != 0)
-        fail(name, SOLVE, "the placement is not legal");
-    memmove(have->entry_wire, want->entry_wire, (size_t)count * sizeof *want->entry_wire);
-    memmove(have->offset, want->offset, (size_t)count * sizeof *want->offset);
+    net->limits = t->limits[which];
+    net->nodes = t->long_as[which][0];
+    memcpy(net->parent, t->parent[which], net->nodes * sizeof *net->parent);
+    memcpy(net->wire, t->wire[which], net->nodes * sizeof *net->wire);
+    memcpy(net->kind, t->kind[which], net->nodes);
+    memcpy(net->pin, t->pin[which], net->nodes * sizeof *net->pin);
+    memcpy(net->polarity, t->polarity[which], net->nodes);
+}
+
+static void placement_of(const uint16_t *wire, const uint32_t *offset, size_t entries,
+                         struct ref_placement *p)
+{
+    p->entries = entries;
+    memcpy(p->wire, wire, entries * sizeof *wire);
+    memcpy(p->offset, offset, entries * sizeof *offset);
+}
+
+/* Is what a solver or a finisher gave legal, together with what was given? */
+static bool serves(const struct trial *t, enum call call, size_t count)
+{
+    static struct ref_net net;
+    static struct ref_placement given, made;
+    net_of(t, 0, &net);
+    placement_of(t->entry_wire, t->offset, count, &made);
+    if (call == SOLVE)
+        return is_legal(&net, &made);
+    placement_of(t->given_wire, t->given_offset, t->given_wires, &given);
+    return ref_completes(&net, &given, &made);
+}
+
+/* It may give other entries, as many. Where they serve, the reference's take their place. */
+static void judge_entries(const char *name, enum call call, struct trial *have,
+                          const struct trial *want, size_t count)
+{
+    if (!serves(have, call, count))
+        fail(name, call, "the placement is not legal");
+    memmove(have->entry_wire, want->entry_wire, count * sizeof *want->entry_wire);
+    memmove(have->offset, want->offset, count * sizeof *want->offset);
 }
 
 /* The bytes between a record's fields are nobody's. */
@@ -124,8 +166,9 @@ static uint32_t agree(enum call call, const struct trial *start)
     static struct trial want, have;
     memcpy(&want, start, sizeof want);
     struct ref_answer right = run(tried[0], call, &want);
-    if (right.number == 0 && call == SOLVE)
-        judge_solution("reference", &want, &want, right.place);
+    bool judged = right.number == 0 && (call == SOLVE || call == FINISH);
+    if (judged)
+        judge_entries("reference", call, &want, &want, (size_t)right.place);
     clear_gaps(&want);
     for (size_t i = 1; i < sizeof tried / sizeof *tried; i++) {
         const char *name = tried[i]->name;
@@ -138,8 +181,8 @@ static uint32_t agree(enum call call, const struct trial *start)
                    answer.number, answer.place, right.number, right.place);
             fail(name, call, "another answer");
         }
-        if (right.number == 0 && call == SOLVE)
-            judge_solution(name, &have, &want, right.place);
+        if (judged)
+            judge_entries(name, call, &have, &want, (size_t)right.place);
         clear_gaps(&have);
         if (memcmp(&have, &want, sizeof have) != 0)
             fail(name, call, "something lent is not as it should be");
@@ -208,6 +251,20 @@ static void lend_entries(struct chance *chance, struct trial *t, const struct re
         t->offset[chance_upto(chance, (uint32_t)p->entries - 1)] = 10000001;
 }
 
+/* Given columns that are unequal, too long, or hold an entry that may not stand, now and then. */
+static void lend_given(struct chance *chance, struct trial *t, const struct ref_placement *p)
+{
+    memcpy(t->given_wire, p->wire, p->entries * sizeof *p->wire);
+    memcpy(t->given_offset, p->offset, p->entries * sizeof *p->offset);
+    t->given_wires = t->given_offsets = p->entries;
+    if (chance_upto(chance, 15) == 0)
+        t->given_wires = near_length(chance, p->entries, LIST);
+    if (chance_upto(chance, 60) == 0)
+        t->given_wires = t->given_offsets = REF_ENTRIES + 1;
+    if (chance_upto(chance, 15) == 0 && p->entries > 0)
+        t->given_offset[chance_upto(chance, (uint32_t)p->entries - 1)] = 10000001;
+}
+
 static size_t length_of_net(const struct ref_net *net)
 {
     static uint8_t bytes[REF_NET_BYTES];
@@ -233,11 +290,11 @@ static void adapt(struct chance *chance, enum call call, struct trial *t,
         for (int i = 0; i < 5; i++)
             t->long_as[0][i] = near_length(chance, net->nodes + (i != 0), COLUMN);
     }
-    if (call == READ_PLACEMENT) {
+    if (call == READ_PLACEMENT)
         lend_file(chance, t, ref_write_placement(p, t->file));
+    if (call == READ_PLACEMENT || call == SOLVE || call == FINISH) {
         memset(t->entry_wire, 0xA5, sizeof t->entry_wire);
-    }
-    if (call == READ_PLACEMENT || call == SOLVE) {
+        memset(t->offset, 0xA5, sizeof t->offset);
         t->wires = near_length(chance, least, LIST);
         t->offsets = near_length(chance, least + 1, LIST);
     }
@@ -247,6 +304,30 @@ static void adapt(struct chance *chance, enum call call, struct trial *t,
         t->bytes = near_length(chance, 8 + 9 * least, FILE_ROOM);
     if (call != READ_NET && chance_upto(chance, call == JUDGE ? 1 : 4) == 0)
         break_net(chance, t, call == CARRY ? (int)chance_upto(chance, 1) : 0);
+}
+
+/* A net of buffers but for a few, and p given: some of its entries gone, others put anywhere. What
+   is to be added takes p's place. */
+static void make_half(struct chance *chance, struct trial *t, struct ref_net *net,
+                      struct ref_placement *p)
+{
+    static struct ref_placement added;
+    if (chance_upto(chance, 15) > 0) {
+        net->limits.type = 0;
+        memset(net->polarity, 0, sizeof net->polarity);
+    }
+    for (uint32_t times = chance_upto(chance, 4); times > 0 && p->entries > 0; times--)
+        take_out(p, chance_upto(chance, (uint32_t)p->entries - 1));
+    for (uint32_t times = chance_upto(chance, 3); times > 0 && p->entries < REF_ENTRIES; times--) {
+        uint16_t wire = (uint16_t)(1 + chance_upto(chance, (uint32_t)net->nodes - 2));
+        put_in(p, wire, chance_upto(chance, net->wire[wire]));
+    }
+    lend_given(chance, t, p);
+    added.entries = 0;
+    if (net->limits.type == 0 && ref_list_drives(net, p->wire, p->entries, p->offset, p->entries,
+                                                 NULL, NULL).number == 0)
+        ref_least_added(net, p, &added);
+    *p = added;
 }
 
 static void make_trial(struct chance *chance, enum call call, struct trial *t)
@@ -265,6 +346,8 @@ static void make_trial(struct chance *chance, enum call call, struct trial *t)
         perturb(chance, &p);
     if (call != SOLVE && chance_upto(chance, 500) == 0)
         random_entries(chance, &net, &p, chance_upto(chance, 1) ? 4096 : 300);
+    if (call == FINISH)
+        make_half(chance, t, &net, &p);
     random_eased(chance, &net, &second);
     lend_net(t, 0, &net);
     lend_net(t, 1, chance_upto(chance, 9) == 0 ? &net : &second);

@@ -1,7 +1,8 @@
 /* reference.c asked line by line on standard input; compare_references.py compares its answers
    with those of reference.py. Files are in hex, "-" for an empty one:
      net F | placement F | rewrite F | check F F | files F F | carry F F F | least F | frontier F
-     judge C_U C_b TYPE COLUMN COLUMN COLUMN COLUMN COLUMN   (numbers with commas, or "-") */
+     judge C_U C_b TYPE COLUMN COLUMN COLUMN COLUMN COLUMN   (numbers with commas, or "-")
+     finish F COLUMN COLUMN ROOM | added F F                 (added: on small nets) */
 #include "reference.h"
 
 #include <inttypes.h>
@@ -9,7 +10,7 @@
 #include <stdlib.h>
 #include <string.h>
 
-enum { LINE = 400000, BYTES = 60000, COLUMN = 2000 };
+enum { LINE = 400000, BYTES = 60000, COLUMN = 5000 };
 
 struct bytes { uint8_t at[BYTES]; size_t size; };
 
@@ -188,6 +189,35 @@ static void do_judge(void)
     say(ref_judge(limits, parent, n[0], c[1], n[1], kind, n[2], c[3], n[3], polarity, n[4]));
 }
 
+static void do_finish(void)
+{
+    static uint32_t wires[COLUMN], offsets[COLUMN];
+    static uint16_t wire[COLUMN];
+    static struct ref_placement given, added;
+    struct ref_net net = take_net();
+    size_t n = take_column(wires), m = take_column(offsets);
+    size_t room = (size_t)strtoul(strtok(NULL, " \n"), NULL, 10);
+    for (size_t i = 0; i < n; i++)
+        wire[i] = (uint16_t)wires[i];
+    struct ref_answer found = ref_finish(&net, wire, n, offsets, m, room, &added);
+    if (found.number == 0) {
+        given.entries = n;
+        memcpy(given.wire, wire, n * sizeof *wire);
+        memcpy(given.offset, offsets, n * sizeof *offsets);
+    }
+    if (found.number == 0 && (added.entries != found.place || !ref_completes(&net, &given, &added)))
+        printf("no completion: ");
+    say(found);
+}
+
+static void do_added(void)
+{
+    struct ref_net net = take_net();
+    struct ref_placement given = take_placement();
+    printf("%" PRId64 " %" PRId64 "\n", ref_least_added(&net, &given, NULL),
+           ref_least_added_exhaustive(&net, &given));
+}
+
 static void act(const char *word)
 {
     if (strcmp(word, "net") == 0)
@@ -206,6 +236,10 @@ static void act(const char *word)
         do_carry();
     else if (strcmp(word, "judge") == 0)
         do_judge();
+    else if (strcmp(word, "finish") == 0)
+        do_finish();
+    else if (strcmp(word, "added") == 0)
+        do_added();
     else
         do_least(strcmp(word, "least") == 0);
 }

@@ -1,5 +1,5 @@
-"""reference.py against reference.c: every row of document 01's table, the stored damaged files,
-and random cases from a fixed seed.
+"""reference.py against reference.c: every row of document 01's table, half-buffered nets whose
+answer is known, the stored damaged files, and random cases from a fixed seed.
 
     python3 compare_references.py PROGRAM [HOW_MANY]
 
@@ -53,6 +53,44 @@ TABLE = [
     (net([branch(0), sink(0, 0, 4), branch(1), sink(1, 0, 1), sink(3, 0, 1, 1), sink(3, 0, 7)],
          kind=1), 2),
 ]
+
+
+FOURTEEN = net([sink(0, 14, 4)])
+ONES = net([sink(0, 0, 1)] * 6)
+FORK = net([branch(0, 3), sink(1, 0, 7), sink(1, 0, 5)])
+# Half-buffered nets: the given entries, and what is added or the refusal and its place.
+HALVES = [
+    (FOURTEEN, [(1, 6)], 0),
+    (FOURTEEN, [(1, 5)], 1),
+    (FOURTEEN, [(1, 7)], 1),
+    (FOURTEEN, [(1, 14)], 1),
+    (FOURTEEN, [(1, 5)] * 4096, 1),
+    (FIFTEEN, [(1, 0), (1, 0)], 1),
+    (net([sink(0, 30, 4)]), [(1, 6), (1, 23)], 2),
+    (net([sink(0, 0, 11)]), [(1, 0)], (8, 0)),
+    (net([sink(0, 0, 3)] * 5), [(1, 0)], 4),
+    (ONES, [], 0),
+    (ONES, [(wire, 0) for wire in range(1, 7)], (8, 0)),
+    (ONES._replace(limits=Limits(10, 0, 0)), [(wire, 0) for wire in range(1, 7)], 0),
+    (FORK, [(1, 0)], 1),
+    (FORK, [(2, 0)], 0),
+    (net([branch(0, 7)] + [sink(1, 0, 3)] * 5), [(2, 0), (2, 0)], 5),
+    (net([sink(0, 20_000, 0)], limit=1, pin=0), [(1, 10_000)], (9, 19_998)),
+    (net([sink(0, 6, 4)]), [(1, 3), (1, 2)], (10, 1)),
+]
+
+
+def halves_hold():
+    """The half-buffered nets, by the Python reference alone."""
+    for number, (half, given, want) in enumerate(HALVES):
+        columns = [w for w, _ in given], [o for _, o in given]
+        answer, _ = attempt(lambda: (ref.finish_judged(half, *columns), 0))
+        expected = want if isinstance(want, int) else f"refused {want[0]} place {want[1]}"
+        assert answer == expected, (number, answer)
+        if isinstance(want, int) and len(given) < 5:
+            assert ref.least_added_exhaustive(half, Placement(*columns)) == want, number
+    unequal = attempt(lambda: ref.finish_judged(TABLE[13][0], [1], []))
+    assert unequal == ("refused 3 place 0", 0)
 
 
 def offsets_that_serve(one_wire):
@@ -227,6 +265,21 @@ def ask_least(word, net, least):
     return f"{word} {hexed(ref.net_bytes(net))}", f"{found} {found}"
 
 
+def ask_finish(net, given, room):
+    def act():
+        return f"read {ref.finish_judged(net, *given, room)}", 0
+    columns = [",".join(map(str, column)) or "-" for column in given]
+    return f"finish {hexed(ref.net_bytes(net))} {' '.join(columns)} {room}", attempt(act)[0]
+
+
+def ask_added(net, given):
+    found = ref.least_added_exhaustive(net, given)
+    assert found == ref.least_added(net, given), (net, given)
+    found = NONE if found is None else found
+    files = ref.net_bytes(net), ref.placement_bytes(given)
+    return "added " + " ".join(map(hexed, files)), f"{found} {found}"
+
+
 def table_questions():
     for row, least in TABLE:
         yield ask_least("least", row, ref.least_exhaustive)
@@ -241,6 +294,56 @@ def stored_questions():
     for name, (make, _, _) in make_damaged.SETS.items():
         for _, data in make_damaged.unlike(make()):
             yield ask_read(name.split("_")[0], data)
+
+
+def half_questions():
+    for half, given, _ in HALVES:
+        columns = Placement([w for w, _ in given], [o for _, o in given])
+        for room in (0, 1, 3, 5000):
+            yield ask_finish(half, columns, room)
+
+
+def as_buffers(net):
+    return net._replace(limits=net.limits._replace(type=0), polarity=[0] * len(net.polarity))
+
+
+def random_given(chance, net):
+    """Entries in order on the net's wires, often at an end of one, often equal."""
+    entries = []
+    for _ in range(chance.choice((0, 1, 1, 2, 3, 5))):
+        wire = chance.randrange(1, len(net.parent))
+        offset = chance.choice((0, net.wire[wire], chance.randint(0, net.wire[wire])))
+        entries += [(wire, offset)] * chance.choice((1, 1, 1, 2))
+    entries.sort()
+    return Placement([w for w, _ in entries], [o for _, o in entries])
+
+
+def broken_given(chance, given):
+    """Columns that are unequal, too long, or hold an entry that may not stand."""
+    wires, offsets = list(given.wire), list(given.offset)
+    how = chance.randrange(5)
+    if how == 0:
+        offsets.append(0)
+    elif how == 1:
+        wires, offsets = [1] * 4097, [0] * 4097
+    elif wires:
+        place = chance.randrange(len(wires))
+        wires[place] = chance.choice((0, 1, wires[place], wires[place], len(wires), 65535))
+        offsets[place] += chance.choice((0, 1, 10_000_001))
+    return Placement(wires, offsets)
+
+
+def finish_questions(chance, number):
+    for _ in range(number):
+        small = as_buffers(random_net(chance, 3, 9, 2, 4))
+        large = as_buffers(random_net(chance, 12, 25, 30, 8))
+        yield ask_added(small, random_given(chance, small))
+        for net in (small, large, large):
+            given = random_given(chance, net)
+            yield ask_finish(net, given, chance.choice((0, 1, 2, 3, 5, 9, 4096, 5000)))
+        yield ask_finish(large, broken_given(chance, given), 5000)
+        yield ask_finish(broken_net(chance, large), broken_given(chance, given), 5000)
+        yield ask_finish(random_net(chance, 5, 25, 30, 8), broken_given(chance, given), 5000)
 
 
 def random_questions(chance, number):
@@ -287,8 +390,10 @@ def main():
     program = sys.argv[1]
     number = int(sys.argv[2]) if len(sys.argv) > 2 else 1500
     table_holds()
-    asked = [*table_questions(), *stored_questions(),
-             *random_questions(random.Random(SEED), number)]
+    halves_hold()
+    asked = [*table_questions(), *half_questions(), *stored_questions(),
+             *random_questions(random.Random(SEED), number),
+             *finish_questions(random.Random(SEED), number)]
     text = "".join(question + "\n" for question, _ in asked)
     done = subprocess.run([program], input=text, capture_output=True, text=True, check=True)
     answers = done.stdout.splitlines()

@@ -49,6 +49,7 @@ static int64_t agree(const struct ref_net *net, bool small)
         if (searches[i].only_small && !small)
             continue;
         placement.entries = REF_ENTRIES + 1;                    /* none given */
+        placement.wire[0] = 0;                                  /* nor left by the one before */
         int64_t found = searches[i].least(net, &placement);
         if (i == 0)
             least = found;

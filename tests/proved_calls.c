@@ -160,10 +160,24 @@ static struct ref_answer carry(struct ref_limits first_limits, struct net_column
     return (struct ref_answer){number, *place};
 }
 
+static struct ref_answer finish(struct ref_limits limits, struct net_columns net,
+                                struct entry_columns given, struct entry_columns to)
+{
+    fence_anew();
+    struct net_columns lent = lend_net(net);
+    struct entry_columns half = lend_entries(given), list = lend_entries(to);
+    uint64_t *place = lend_place();
+    uint32_t number = proved_finish(LIMITS(limits), COLUMNS(lent), ENTRIES(half), ENTRIES(list),
+                                    place);
+    TAKE_BACK(to.wire, list.wire, to.wires);
+    TAKE_BACK(to.offset, list.offset, to.offsets);
+    return (struct ref_answer){number, *place};
+}
+
 const struct calls proved_calls = {
     .name = "proved", .read_net = read_net, .read_placement = read_placement,
     .write_net = write_net, .write_placement = write_placement, .judge = judge, .solve = solve,
-    .check = check, .drives = list_drives, .carry = carry,
+    .check = check, .drives = list_drives, .carry = carry, .finish = finish,
 };
 
 static struct net_columns columns_of(const struct ref_net *net)
@@ -194,4 +208,13 @@ struct ref_answer carry_proved(const struct ref_net *first, const struct ref_net
     struct entry_columns list = {p->wire, p->offset, p->entries, p->entries};
     return carry(first->limits, columns_of(first), second->limits, columns_of(second), list,
                  refused_net);
+}
+
+struct ref_answer finish_proved(const struct ref_net *net, const struct ref_placement *given,
+                                struct entry_columns to)
+{
+    static struct ref_placement half;
+    half = *given;
+    struct entry_columns list = {half.wire, half.offset, half.entries, half.entries};
+    return finish(net->limits, columns_of(net), list, to);
 }

@@ -60,11 +60,22 @@ uint32_t proved_carry(uint32_t limit, uint32_t cb, uint8_t repeater,
                       const uint16_t *entry_wire, size_t entry_wires,
                       uint32_t *offset, size_t offsets, uint32_t *which, uint64_t *place);
 
+uint32_t proved_finish(uint32_t limit, uint32_t cb, uint8_t repeater,
+                       const uint16_t *parent, size_t parents, const uint32_t *wire, size_t wires,
+                       const uint8_t *kind, size_t kinds, const uint32_t *pin, size_t pins,
+                       const uint8_t *polarity, size_t polarities,
+                       const uint16_t *given, size_t givens,
+                       const uint32_t *given_offset, size_t given_offsets,
+                       uint16_t *entry_wire, size_t entry_wires,
+                       uint32_t *offset, size_t offsets, uint64_t *place);
+
 extern const struct calls proved_calls;
 
-/* For compare_searches and compare_carries. */
+/* For compare_searches, compare_carries and compare_finishes. */
 int64_t least_proved(const struct ref_net *net, struct ref_placement *placement);
 struct ref_answer carry_proved(const struct ref_net *first, const struct ref_net *second,
                                struct ref_placement *placement, int *refused_net);
+struct ref_answer finish_proved(const struct ref_net *net, const struct ref_placement *given,
+                                struct entry_columns to);
 
 #endif

@@ -123,6 +123,14 @@ static inline void put_in(struct ref_placement *p, uint16_t wire, uint32_t offse
     p->offset[at] = offset;
 }
 
+/* Leaves an entry out. */
+static inline void take_out(struct ref_placement *p, size_t at)
+{
+    p->entries--;
+    memmove(p->wire + at, p->wire + at + 1, (p->entries - at) * sizeof *p->wire);
+    memmove(p->offset + at, p->offset + at + 1, (p->entries - at) * sizeof *p->offset);
+}
+
 /* An entry (two inverters) more, or an offset moved, where that stays legal. */
 static inline void stir(struct chance *chance, const struct ref_net *net, struct ref_placement *p)
 {
@@ -169,10 +177,7 @@ static inline void perturb(struct chance *chance, struct ref_placement *p)
         if (p->entries < REF_ENTRIES)
             put_in(p, wire, offset);
         break;
-    default:
-        p->entries--;
-        memmove(p->wire + at, p->wire + at + 1, (p->entries - at) * sizeof *p->wire);
-        memmove(p->offset + at, p->offset + at + 1, (p->entries - at) * sizeof *p->offset);
+    default: take_out(p, at);
     }
 }
 

@@ -196,7 +196,23 @@ static struct ref_answer carry(struct ref_limits first_limits, struct net_column
     return result;
 }
 
+static struct ref_answer finish(struct ref_limits limits, struct net_columns c,
+                                struct entry_columns given, struct entry_columns to)
+{
+    static struct ref_net net;
+    static struct ref_placement added;
+    struct ref_answer result = judge(limits, c);
+    if (result.number != 0)
+        return result;
+    take(&net, limits, c);
+    result = ref_finish(&net, given.wire, given.wires, given.offset, given.offsets,
+                        lower(to.wires, to.offsets), &added);
+    if (result.number == 0)
+        give_entries(&added, to);
+    return result;
+}
+
 const struct calls ref_calls = {
     "reference", read_net, read_placement, write_net, write_placement, judge, solve, check, drives,
-    carry,
+    carry, finish,
 };

@@ -274,7 +274,7 @@ struct check {
     const uint16_t *wire;
     const uint32_t *offset;
     size_t entries;
-    uint64_t drives[REF_ENTRIES];
+    uint64_t drives[2 * REF_ENTRIES];    /* given and added entries together may be so many */
     uint8_t parity[REF_NODES];           /* of the inverters from the source to a node */
 };
 
@@ -337,7 +337,24 @@ static struct ref_answer judge_parity(const struct check *check)
     return answer(0, check->entries);
 }
 
-/* The net's refusals, 7 and 10; then the loads are in *check and the source's in *source. */
+/* 10; then the loads are in *check and the source's in *source. */
+static struct ref_answer weigh_list(struct check *check, const struct ref_net *net,
+                                    const uint16_t *wire, const uint32_t *offset, size_t entries,
+                                    uint64_t *source)
+{
+    check->net = net;
+    check->wire = wire;
+    check->offset = offset;
+    check->entries = entries;
+    for (size_t entry = 0; entry < entries; entry++)
+        if (misplaced(check, entry))
+            return answer(10, entry);
+    check->parity[0] = 0;
+    *source = load_below(check, 0);
+    return answer(0, entries);
+}
+
+/* The net's refusals and 7 before that. */
 static struct ref_answer weigh(struct check *check, const struct ref_net *net,
                                const uint16_t *wire, size_t wires,
                                const uint32_t *offset, size_t offsets, uint64_t *source)
@@ -347,16 +364,7 @@ static struct ref_answer weigh(struct check *check, const struct ref_net *net,
         return judged;
     if (wires != offsets || wires > REF_ENTRIES)
         return answer(7, 0);
-    check->net = net;
-    check->wire = wire;
-    check->offset = offset;
-    check->entries = wires;
-    for (size_t entry = 0; entry < wires; entry++)
-        if (misplaced(check, entry))
-            return answer(10, entry);
-    check->parity[0] = 0;
-    *source = load_below(check, 0);
-    return answer(0, wires);
+    return weigh_list(check, net, wire, offset, wires, source);
 }
 
 /* 11, then 12. */
@@ -580,6 +588,8 @@ struct pair {
     size_t wire;        /* on a wire: its number, and how many entries stand on it */
     int64_t entries;
     size_t child;       /* at a node: the pair of the child wire just joined */
+    uint32_t low, size; /* finishing, on a piece of a wire: where it begins, how long it is, */
+    uint64_t below;     /* and what lies below it */
 };
 
 struct run { size_t first, size; };                   /* pairs next to each other in the store */
@@ -745,4 +755,308 @@ int64_t ref_least_frontier(const struct ref_net *net, struct ref_placement *plac
         write_out(net, &chosen, placement);
     }
     return least;
+}
+
+/* ------------------------------------------------------------ finishing: is a whole legal?
+
+   Given and added entries together, in list order. Equal ones are equal values: which of them was
+   given cannot be seen. */
+
+static bool goes_first(const struct ref_placement *one, size_t i,
+                       const struct ref_placement *other, size_t j)
+{
+    if (i == one->entries || j == other->entries)
+        return j == other->entries;
+    if (one->wire[i] != other->wire[j])
+        return one->wire[i] < other->wire[j];
+    return one->offset[i] <= other->offset[j];
+}
+
+bool ref_completes(const struct ref_net *net, const struct ref_placement *given,
+                   const struct ref_placement *added)
+{
+    static uint16_t wire[2 * REF_ENTRIES];
+    static uint32_t offset[2 * REF_ENTRIES];
+    static struct check check;
+    size_t entries = given->entries + added->entries, g = 0, a = 0;
+    uint64_t source = 0;
+    while (g + a < entries) {
+        bool first = goes_first(given, g, added, a);
+        wire[g + a] = first ? given->wire[g] : added->wire[a];
+        offset[g + a] = first ? given->offset[g] : added->offset[a];
+        *(first ? &g : &a) += 1;
+    }
+    struct ref_answer weighed = weigh_list(&check, net, wire, offset, entries, &source);
+    return weighed.number == 0 && judge_loads(&check, source).number == 0;
+}
+
+/* ------------------------------------------------------------ the fewest added, exhaustively
+
+   Every list of added entries is tried that has at most enough_added() = 1 + ceil(w / D) of them
+   on a wire of size w, D = C_U - C_b. That is enough: take a legal whole that holds the given
+   entries, and a wire on which it has entries, the lowest of them all at o1. Leave the given ones
+   where they are, and instead of the added ones put some at o1, o1 + D, o1 + 2D .. below w, and
+   one at w. No given one stands below o1, so the lowest drives what it drove; every other one,
+   given or added, has one within D below it and drives at most C_U; the wire hands up C_b, the
+   least that a wire with entries can. So a wire to which more are added need not have more, and
+   if nothing within the bounds completes the given entries nothing does.
+
+   Wires are settled from the last to the first, as above. What is left out, and why nothing is
+   lost by it:
+   - a stage or a node's load over C_U: no choice still open makes it less;
+   - as many added entries as the best completion found so far;
+   - a second arrangement of a wire's added entries with the same number and the same topmost
+     offset: the given ones up to there are passed, and all that is still open sees no difference;
+   - an added entry below a given one at the same offset: it is the same list. */
+
+struct adding {
+    const struct ref_net *net;
+    const struct ref_placement *given;
+    size_t first[REF_NODES + 1];         /* a wire's given entries begin here, before the next's */
+    uint64_t below[REF_NODES];
+    int64_t count, best;                 /* of added ones; best: REF_NONE before the first */
+};
+
+static void begin_adding(struct adding *adding, const struct ref_net *net,
+                         const struct ref_placement *given)
+{
+    adding->net = net;
+    adding->given = given;
+    for (size_t wire = 0, entry = 0; wire <= net->nodes; wire++) {
+        while (entry < given->entries && given->wire[entry] < wire)
+            entry++;
+        adding->first[wire] = entry;
+    }
+}
+
+/* A place on a wire: the load below it down to `low`, and the next given entry. */
+struct point { uint32_t low; uint64_t load; size_t next; };
+
+/* Past the given entries up to `high`; false where one of them drives too much. */
+static bool pass_given(const struct adding *adding, size_t wire, uint32_t high, struct point *at)
+{
+    const struct ref_limits limits = adding->net->limits;
+    const uint32_t *offset = adding->given->offset;
+    for (; at->next < adding->first[wire + 1] && offset[at->next] <= high; at->next++) {
+        if (offset[at->next] - at->low + at->load > limits.limit)
+            return false;
+        at->low = offset[at->next];
+        at->load = limits.pin;
+    }
+    return true;
+}
+
+static void complete_wire(struct adding *adding, size_t wire);
+
+static int64_t enough_added(const struct ref_net *net, size_t wire)
+{
+    uint32_t between = net->limits.limit - net->limits.pin;
+    return 1 + (net->wire[wire] + (int64_t)between - 1) / between;
+}
+
+/* Nothing more is added on the wire: go on with the next one. */
+static void leave_wire(struct adding *adding, size_t wire, struct point at)
+{
+    const struct ref_net *net = adding->net;
+    size_t parent = net->parent[wire];
+    if (!pass_given(adding, wire, net->wire[wire], &at))
+        return;
+    uint64_t load = net->wire[wire] - at.low + at.load;
+    if (adding->below[parent] + load > net->limits.limit)
+        return;
+    adding->below[parent] += load;
+    complete_wire(adding, wire - 1);
+    adding->below[parent] -= load;
+}
+
+struct wire_adding {
+    size_t wire;
+    int64_t added;                       /* on this wire so far */
+    bool seen[REF_SMALL_WIRE + 2][REF_SMALL_WIRE + 1];          /* [added][topmost offset] */
+};
+
+/* One more is added on the wire, anywhere from the point up. */
+static void add_one(struct adding *adding, struct wire_adding *on, struct point from)
+{
+    const struct ref_net *net = adding->net;
+    if (on->added == enough_added(net, on->wire))
+        return;
+    on->added++;
+    adding->count++;
+    for (uint32_t offset = from.low; offset <= net->wire[on->wire]; offset++) {
+        struct point at = from;
+        if (adding->best != REF_NONE && adding->count >= adding->best)
+            break;
+        if (!pass_given(adding, on->wire, offset, &at))
+            break;
+        if (offset - at.low + at.load > net->limits.limit || on->seen[on->added][offset])
+            continue;
+        on->seen[on->added][offset] = true;
+        at.low = offset;
+        at.load = net->limits.pin;
+        leave_wire(adding, on->wire, at);
+        add_one(adding, on, at);
+    }
+    adding->count--;
+    on->added--;
+}
+
+static void complete_wire(struct adding *adding, size_t wire)
+{
+    if (adding->best != REF_NONE && adding->count >= adding->best)
+        return;
+    if (wire == 0) {
+        adding->best = adding->count;
+        return;
+    }
+    struct wire_adding on = {.wire = wire};
+    struct point node = {0, adding->below[wire], adding->first[wire]};
+    leave_wire(adding, wire, node);
+    add_one(adding, &on, node);
+}
+
+int64_t ref_least_added_exhaustive(const struct ref_net *net, const struct ref_placement *given)
+{
+    static struct adding adding;
+    begin_adding(&adding, net, given);
+    adding.count = 0;
+    adding.best = REF_NONE;
+    for (size_t node = 0; node < net->nodes; node++) {
+        assert(net->wire[node] <= REF_SMALL_WIRE);
+        adding.below[node] = net->pin[node];
+    }
+    complete_wire(&adding, net->nodes - 1);
+    return adding.best;
+}
+
+/* ------------------------------------------------------------ the fewest added, by full frontiers
+
+   All pairs (added, load) that no other beats in both, as above, at one polarity; a wire is
+   climbed from one given entry to the next. A given entry drives whatever pair lies below it, if
+   that is within C_U, and hands up C_b. */
+
+/* On one piece of a wire: every number of entries, each as high as its stage allows. */
+static void along_piece(struct store *store, struct ref_limits limits, struct pair piece)
+{
+    uint32_t top = at_most(limits.limit - piece.below, piece.size);
+    piece.load = piece.size + piece.below;
+    keep(store, piece);
+    for (bool done = false; !done; top = at_most((uint64_t)top + limits.limit - limits.pin,
+                                                 piece.size)) {
+        piece.entries++;
+        piece.count++;
+        piece.load = piece.size - top + (uint64_t)limits.pin;
+        if (piece.load <= limits.limit)
+            keep(store, piece);
+        done = top == piece.size;
+    }
+}
+
+static struct run over_pieces(struct store *store, const struct adding *adding, size_t wire,
+                              struct run at)
+{
+    const struct ref_limits limits = adding->net->limits;
+    struct pair piece = {.wire = wire};
+    for (size_t next = adding->first[wire]; ; next++) {
+        bool lowest = next == adding->first[wire], topmost = next == adding->first[wire + 1];
+        uint32_t high = topmost ? adding->net->wire[wire] : adding->given->offset[next];
+        size_t first = store->size;
+        piece.size = high - piece.low;
+        for (size_t i = 0; i < at.size; i++) {
+            piece.from = at.first + i;
+            piece.count = store->pair[piece.from].count;
+            piece.below = lowest ? store->pair[piece.from].load : limits.pin;
+            along_piece(store, limits, piece);
+        }
+        at = thin(store, first, limits.limit);
+        if (topmost)
+            return at;
+        piece.low = high;
+    }
+}
+
+static void insert(struct ref_placement *to, size_t wire, uint32_t offset)
+{
+    size_t at = to->entries++;
+    for (; at > 0 && (to->wire[at - 1] > wire
+                      || (to->wire[at - 1] == wire && to->offset[at - 1] > offset)); at--) {
+        to->wire[at] = to->wire[at - 1];
+        to->offset[at] = to->offset[at - 1];
+    }
+    to->wire[at] = (uint16_t)wire;
+    to->offset[at] = offset;
+}
+
+/* The entries that a pair at a node stands for. */
+static void list_added(const struct store *store, struct ref_limits limits, size_t at,
+                       struct ref_placement *added)
+{
+    for (; store->pair[at].child != 0; at = store->pair[at].from) {
+        size_t down = store->pair[at].child;
+        for (; store->pair[down].wire != 0; down = store->pair[down].from) {
+            const struct pair *piece = &store->pair[down];
+            uint64_t load = piece->below;
+            uint32_t top = 0;
+            for (int64_t i = 0; i < piece->entries; i++) {
+                top = at_most(top + limits.limit - load, piece->size);
+                insert(added, piece->wire, piece->low + top);
+                load = limits.pin;
+            }
+        }
+        list_added(store, limits, down, added);
+    }
+}
+
+int64_t ref_least_added(const struct ref_net *net, const struct ref_placement *given,
+                        struct ref_placement *added)
+{
+    static struct store store;
+    static struct run at[REF_NODES];
+    static struct adding adding;
+    uint64_t limit = net->limits.limit;
+    begin_adding(&adding, net, given);
+    store.size = 0;
+    keep(&store, (struct pair){0});      /* pair 0 means no pair */
+    for (size_t node = 0; node < net->nodes; node++) {
+        at[node] = (struct run){store.size, net->pin[node] <= limit};
+        keep(&store, (struct pair){.load = net->pin[node]});
+    }
+    for (size_t wire = net->nodes - 1; wire > 0; wire--) {
+        size_t up = net->parent[wire];
+        at[up] = join(&store, limit, at[up], over_pieces(&store, &adding, wire, at[wire]));
+    }
+    if (at[0].size == 0)
+        return REF_NONE;
+    int64_t least = store.pair[at[0].first].count;
+    if (added != NULL && least <= REF_ENTRIES) {
+        added->entries = 0;
+        list_added(&store, net->limits, at[0].first, added);
+    }
+    return least;
+}
+
+/* ------------------------------------------------------------ finishing, the whole call */
+
+struct ref_answer ref_finish(const struct ref_net *net,
+                             const uint16_t *wire, size_t wires,
+                             const uint32_t *offset, size_t offsets,
+                             size_t room, struct ref_placement *added)
+{
+    static struct ref_placement given;
+    struct ref_answer judged = ref_judge_net(net);
+    if (judged.number == 0 && net->limits.type == 1)
+        judged = answer(3, 0);
+    if (judged.number == 0)              /* 7 and 10 */
+        judged = ref_list_drives(net, wire, wires, offset, offsets, NULL, NULL);
+    if (judged.number != 0)
+        return judged;
+    given.entries = wires;
+    memcpy(given.wire, wire, wires * sizeof *wire);
+    memcpy(given.offset, offset, wires * sizeof *offset);
+    int64_t least = ref_least_added(net, &given, added);
+    if (least == REF_NONE)
+        return answer(8, 0);
+    if (least > REF_ENTRIES || (uint64_t)least > room)
+        return answer(9, (uint64_t)least);
+    return answer(0, (uint64_t)least);
 }

@@ -3,6 +3,7 @@
 #ifndef REFERENCE_H
 #define REFERENCE_H
 
+#include <stdbool.h>
 #include <stddef.h>
 #include <stdint.h>
 
@@ -73,5 +74,21 @@ struct ref_answer ref_eases(const struct ref_net *first, const struct ref_net *s
 enum { REF_NONE = -1, REF_SMALL_WIRE = 24 };
 int64_t ref_least_exhaustive(const struct ref_net *net);
 int64_t ref_least_frontier(const struct ref_net *net, struct ref_placement *placement);
+
+/* Finishing. Of given entries that stand in order on a judged net of type 0: the least number of
+   added ones with which the whole is legal, or REF_NONE. The two searches are as those above;
+   *added (may be NULL) gets the entries if they are at most 4,096. */
+int64_t ref_least_added_exhaustive(const struct ref_net *net, const struct ref_placement *given);
+int64_t ref_least_added(const struct ref_net *net, const struct ref_placement *given,
+                        struct ref_placement *added);
+/* Are the added entries in order, and is the whole legal? It may have more than 4,096 entries. */
+bool ref_completes(const struct ref_net *net, const struct ref_placement *given,
+                   const struct ref_placement *added);
+/* The whole call; `room` is the shorter lent column. On success place is the number of entries
+   in *added; a refusal leaves *added in an unspecified state. */
+struct ref_answer ref_finish(const struct ref_net *net,
+                             const uint16_t *wire, size_t wires,
+                             const uint32_t *offset, size_t offsets,
+                             size_t room, struct ref_placement *added);
 
 #endif

@@ -497,3 +497,92 @@ def least_frontier(net):
         at[up] = [joined(net, at[up][p], top[p]) for p in (0, 1)]
     counts = [count for side in at[0] for count, _ in side]
     return min(counts) if counts else None
+
+
+# ---------------------------------------------------------------- finishing: given and added entries
+
+def whole(given, added):
+    """Given and added entries together, in order."""
+    entries = sorted([*zip(*given), *zip(*added)])
+    return Placement([w for w, _ in entries], [o for _, o in entries])
+
+
+def completes(net, given, added):
+    """Are the added entries in order, and is the whole legal? It may have more than 4,096."""
+    added_entries = list(zip(*added))
+    return added_entries == sorted(added_entries) and legal(net, whole(given, added))
+
+
+# Why few added entries on a wire are enough. Take a legal whole that holds the given entries and a
+# wire of size w on which it has entries, the lowest of all at o1. Leave the given ones where they
+# are, take the added ones off and put some at o1, o1 + D, o1 + 2D .. as long as they are below w,
+# and one at w. No given one stands below o1, so the lowest drives what it drove; each other one,
+# given or added, has one within D below it, so it drives at most D + C_b = C_U; and the wire hands
+# up C_b, which is the least that a wire with entries can. That is at most 1 + ceil(w / D) added
+# ones. So where a completion exists, one with the fewest added exists that adds at most so many on
+# each wire, and where none within these bounds is legal there is none. Type 0 has no parity.
+
+def enough_added(net, wire):
+    between = net.limits.limit - net.limits.pin
+    return 1 + -(-net.wire[wire] // between)
+
+
+def least_added_exhaustive(net, given):
+    """The fewest entries to add, by trying everything, or None. Type 0, judged, small."""
+    caps = [enough_added(net, wire) for wire in range(1, len(net.parent))]
+    for total in range(sum(caps) + 1):
+        for share in shares(caps, total):
+            if any(legal(net, whole(given, added)) for added in placements_of(net, share)):
+                return total
+    return None
+
+
+def climbed(net, wire, given_offsets, below):
+    """The frontier at the top of a wire from that at its lower node, a unit at a time.
+
+    At every unit an entry may be added. A given one drives whatever lies below it, if that is
+    within C_U, and hands up C_b.
+    """
+    pin, here = net.limits.pin, below
+    for offset in range(net.wire[wire] + 1):
+        if offset > 0:
+            here = within(net, [(count, load + 1) for count, load in here])
+        here = unbeaten(here + [(count + 1, pin) for count, _ in here])
+        for _ in range(given_offsets.count(offset)):
+            here = unbeaten([(count, pin) for count, _ in here])
+    return here
+
+
+def least_added(net, given):
+    """The least number of entries that make `given` legal when they are added, or None.
+
+    `net` is a judged Net of type 0, `given` a Placement whose entries stand on its wires in order;
+    it may overload. Equal entries count as often as they are given. The time grows with the sum of
+    the wires, unit by unit: a wire of 10,000,000 takes half a minute.
+    """
+    at = [within(net, [(0, pin)]) for pin in net.pin]
+    for node in range(len(net.parent) - 1, 0, -1):
+        top = climbed(net, node, offsets_on(given, node), at[node])
+        at[net.parent[node]] = joined(net, at[net.parent[node]], top)
+    return min(count for count, _ in at[0]) if at[0] else None
+
+
+def finish_judged(net, given_wires, given_offsets, room=None):
+    """What the call must answer: how many entries it adds, or Refused(number, place).
+
+    `net` is a Net of any columns and limits, sound or not; the given columns may be unequal, too
+    long, or hold entries that do not stand. `room` is the shorter lent column; None: enough.
+    Which least completion a finisher gives is free: `completes` judges the entries it added.
+    """
+    judge_net(net)
+    if net.limits.type == 1:
+        raise Refused(3, 0)
+    given = Placement(given_wires, given_offsets)
+    judge_placement_columns(given)
+    judge_entries(net, given)
+    least = least_added(net, given)
+    if least is None:
+        raise Refused(8, 0)
+    if least > MOST_ENTRIES or (room is not None and least > room):
+        raise Refused(9, least)
+    return least

@@ -142,3 +142,11 @@ pub fn put_answer(
     let after = put_entries(out, first, wires, offsets, loads);
     put_line(out, after, source_line(source))
 }
+
+// Writes the line of a refusal to a descriptor, for programs that have no other text to lay.
+pub fn print_refused(to: i32, why: Refusal) {
+    let line = refused_line(why);
+    let text = line.text;
+    let bytes = line.bytes;
+    io::write_all(to, &text[..bytes]);
+}

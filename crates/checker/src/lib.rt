@@ -53,7 +53,7 @@ fn entry_stands(wire: &[u32], before: Entry, entry: Entry) -> bool
 }
 
 // 7 and 10: the columns of a placement fit, and each entry stands on a wire and not before the one before it.
-fn entries_stand(wire: &[u32], wires: &[u16], offsets: &[u32]) -> Judged
+pub fn entries_stand(wire: &[u32], wires: &[u16], offsets: &[u32]) -> Judged
     ensures { λ r. ⌜ ((n : Net) → HasWires n (now (wire .entry)) → r ≡ stood n (now (wires .entry)) (now (offsets .entry))) ⌝ }
 {
     if offsets.len() != wires.len() {

@@ -8,35 +8,9 @@ ghost use Rattle.net.specs.Net.{netAt};
 ghost use Rattle.net.specs.Sound.{SoundNet};
 ghost use Rattle.frontier.specs.Placed.{placed};
 ghost use Rattle.states.specs.States.{modelOf, limitsOf, CellOk};
-ghost use Rattle.cuts.specs.Offsets.{steps, offsets};
+ghost use Rattle.cuts.specs.Offsets.{offsets};
 ghost use Rattle.walk.specs.Walk.{offsOf};
-ghost use Rattle.entries.specs.Columns.{wireColumn, offsetColumn};
-
-// r entries of wire i from `at` on, the first at the offset o and each a span further, up to the wire's size w.
-pub fn write_spaced(
-    wires: &mut [u16],
-    offsets: &mut [u32],
-    at: usize,
-    i: u16,
-    w: u64,
-    o: u64,
-    span: u64,
-    r: usize,
-)
-    requires { ⌜ (at + r ≤ length (now wires)) × (at + r ≤ length (now offsets)) ⌝ }
-    requires { ⌜ (o ≤ w) × (w ≤ 10000000) × (span ≤ 1000000) ⌝ }
-    ensures { λ x. ⌜ (now (wires .exit) ≡ sets (now (wires .entry)) at (replicate r i)) × (now (offsets .exit) ≡ sets (now (offsets .entry)) at (steps w span o r)) ⌝ }
-{
-    let mut x = o;
-    let mut j: usize = 0;
-    while j < r {
-        let k = at + j;
-        wires[k] = i;
-        offsets[k] = x as u32;
-        x = states::least(w, x + span);
-        j += 1;
-    }
-}
+ghost use Rattle.columns.specs.Columns.{wireColumn, offsetColumn};
 
 // The entries of wire i, of size w: r by spacing over the load h, and k at its upper end. Answers the place after them.
 pub fn write_wire(
@@ -56,9 +30,9 @@ pub fn write_wire(
 {
     let v = i as u16;
     let o = states::least(w, states::less(c.limit, h));
-    write_spaced(wires, offsets, at, v, w, o, c.span, r);
+    columns::write_spaced(wires, offsets, at, v, w, o, c.span, r);
     let next = at + r;
-    write_spaced(wires, offsets, next, v, w, w, 0, k);
+    columns::write_spaced(wires, offsets, next, v, w, w, 0, k);
     next + k
 }
 
@@ -87,7 +61,7 @@ pub fn write_all(
         let h = walked[from + 2];
         let r = walked[from + 3] as usize;
         let k = walked[from + 4] as usize;
-        at = write_wire(c, wires, offsets, at, i, rows::wide(wire[i]), h, r, k);
+        at = write_wire(c, wires, offsets, at, i, states::wide(wire[i]), h, r, k);
         i += 1;
     }
 }

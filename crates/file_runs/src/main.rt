@@ -11,13 +11,6 @@ use net_file::NetRead;
 use net_file::NetWrote;
 use placement_file::PlacementRead;
 
-fn print_refusal(r: Refusal) {
-    let line = answer::refused_line(r);
-    let text = line.text;
-    let bytes = line.bytes;
-    io::write_all(STDOUT_FILENO, &text[..bytes]);
-}
-
 fn print_read(same: bool, filled: usize) {
     if !same {
         io::write_all(STDOUT_FILENO, b"not the same bytes\n");
@@ -110,7 +103,7 @@ fn run_net(s: &[u8]) {
             let same = write_places(s, limits, places, &parent, &wire, &kind, &pin, &polarity);
             print_read(same, places)
         }
-        NetRead::Refused(r) => print_refusal(r),
+        NetRead::Refused(r) => answer::print_refused(STDOUT_FILENO, r),
     }
 }
 
@@ -144,7 +137,7 @@ fn run_placement(s: &[u8]) {
             let same = write_entries(s, n, &wires, &offsets);
             print_read(same, n)
         }
-        PlacementRead::Refused(r) => print_refusal(r),
+        PlacementRead::Refused(r) => answer::print_refused(STDOUT_FILENO, r),
     }
 }
 

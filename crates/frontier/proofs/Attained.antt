@@ -1,6 +1,6 @@
 -- What the frontier says is reached: for each state there is a plan with at most that count and at most that load, put together wire by wire.
 use Prim.Native.Nat.{ℕ, zero, suc, _+_, _-_, _*_, _%_, _≤_, min, max}
-use mathlib.Core.Path.{_≡_, refl, sym, subst, ap}
+use mathlib.Core.Path.{_≡_, refl, sym, subst, ap, _∙_}
 use mathlib.Core.List.{List, [], _∷_, _++_}
 use lib.ListN.{length, length-append}
 use native.Mathlib.Nat.{le-trans, le-refl}
@@ -9,6 +9,7 @@ use Rattle.net.specs.Tree.{Hanging, none, sink, branch}
 use Rattle.net.specs.Load.{handsUp}
 use Rattle.frontier.specs.Cell.{Kind, buf, inv, Cell, turn}
 use Rattle.frontier.specs.Plan.{Plan, count, GoodW, topW, load, Good, Par}
+use Rattle.frontier.specs.Spaced.{spread, steps}
 use Rattle.frontier.specs.Frontier.{State, lost, has, Acc, fail, all, ifz, mergeBy, merge, width, atSurplus, req, T, second, cand, via, wire, conv, join, closeAt, close, leaf, acc, node}
 use Rattle.frontier.proofs.Lower.{T-mono, ceil-ok, Tidy, close-tidy, leaf-tidy}
 
@@ -38,10 +39,14 @@ merge-att Y up (has m a b) (has m′ a′ b′) x y = go (m′ - m) (m - m′) r
     go (suc zero) e p q = (x .0, pick Y (suc m) b a′ (x .1) (up m′ (suc m) a′ a′ (omega arith) (omega arith) (y .0)))
     go (suc (suc d)) e p q = x
 
--- the offsets of r repeaters on a wire of size w, from the offset `at` on, where b hangs: each as high as it may be
-unfoldable pub spread : Cell → ℕ → ℕ → ℕ → ℕ → List ℕ
-spread τ w at b zero = []
-spread τ w at b (suc r) = min w (at + (τ.cu - b)) ∷ spread τ w (min w (at + (τ.cu - b))) τ.cb r
+-- with a span between each and the next
+pub spread-steps : (τ : Cell) → τ.cu ≡ τ.cb + τ.D → (w at b r : ℕ) → spread τ w at b r ≡ steps w τ.D (min w (at + (τ.cu - b))) r
+unfolding spread steps
+spread-steps τ eq w at b zero = refl
+spread-steps τ eq w at b (suc r) =
+    let o : ℕ = min w (at + (τ.cu - b)) in
+    let d : τ.cu - τ.cb ≡ τ.D = omega arith in
+    ap (λ (os : List ℕ). o ∷ os) (spread-steps τ eq w o τ.cb r ∙ ap (λ (x : ℕ). steps w τ.D (min w (o + x)) r) d)
 
 -- less below is no harder
 pub GoodW-mono : (τ : Cell) (w at b b′ : ℕ) (os : List ℕ) → b′ ≤ b → GoodW τ w at b os → GoodW τ w at b′ os

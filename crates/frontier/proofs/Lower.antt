@@ -68,7 +68,7 @@ Tidy τ (has m a b) = (a ≤ τ.cu) × (b ≤ a)
 
 module _ (τ : Cell) (eq : τ.cu ≡ τ.cb + τ.D) (pos : 1 ≤ τ.D) where
   -- ---- one real wire
-  T-loads : (v r t : ℕ) → T τ v r ≤ t → v ≤ t + r * τ.D
+  pub T-loads : (v r t : ℕ) → T τ v r ≤ t → v ≤ t + r * τ.D
   T-loads v zero t h = omega arith
   T-loads v (suc r) t h = omega arith
 
@@ -85,7 +85,7 @@ module _ (τ : Cell) (eq : τ.cu ≡ τ.cb + τ.D) (pos : 1 ≤ τ.D) where
   topW-thick w at [] = omega arith
   topW-thick w at (o ∷ os) = topW-thick w o os
 
-  topW-bound : (w at b : ℕ) (os : List ℕ) → GoodW τ w at b os → T τ ((w - at) + b) (length os) ≤ topW τ w at b os
+  pub topW-bound : (w at b : ℕ) (os : List ℕ) → GoodW τ w at b os → T τ ((w - at) + b) (length os) ≤ topW τ w at b os
   unfolding handsUp
   topW-bound w at b [] g = omega arith
   topW-bound w at b (o ∷ os) g =
@@ -279,12 +279,12 @@ module _ (τ : Cell) (eq : τ.cu ≡ τ.cb + τ.D) (pos : 1 ≤ τ.D) where
       z₂ = omega arith
 
   -- ---- the whole
-  below-fits : (w b : ℕ) (os : List ℕ) → GoodW τ w 0 b os → topW τ w 0 b os ≤ τ.cu → b ≤ τ.cu
+  pub below-fits : (w b : ℕ) (os : List ℕ) → GoodW τ w 0 b os → topW τ w 0 b os ≤ τ.cu → b ≤ τ.cu
   unfolding handsUp
   below-fits w b [] g h = omega arith
   below-fits w b (o ∷ os) g h = omega (arith, g .1)
 
-  wire-thick : (w b c : ℕ) (os : List ℕ) → (1 ≤ c → τ.cb ≤ b) → 1 ≤ c + length os → τ.cb ≤ topW τ w 0 b os
+  pub wire-thick : (w b c : ℕ) (os : List ℕ) → (1 ≤ c → τ.cb ≤ b) → 1 ≤ c + length os → τ.cb ≤ topW τ w 0 b os
   unfolding handsUp
   wire-thick w b c [] th h = omega (arith, th (omega arith))
   wire-thick w b c (o ∷ os) th h = topW-thick w o os

@@ -16,8 +16,8 @@ use Rattle.net.specs.Legal.{Legal, Least}
 use Rattle.net.specs.Judge.{judged}
 use Rattle.solver.specs.declared.Solved.{Solved}
 use Rattle.solver.specs.declared.Solved.the-variants.{Placed, Refused}
-use Rattle.solver.specs.Answer.{roomIn, Holds, Outcome, none, full, placed, Answered}
-use Rattle.entries.specs.Columns.{wireColumn, offsetColumn}
+use Rattle.solver.specs.Answer.{Outcome, none, full, placed, Answered}
+use Rattle.columns.specs.Columns.{roomIn, Holds, wireColumn, offsetColumn}
 use Rattle.answer.specs.Text.{refusedLine}
 use Rattle.mustorgyel.specs.Printed.{Given, PrintsNet}
 use Rattle.mustorgyel.specs.Printed.{none as prints-none, full as prints-full}

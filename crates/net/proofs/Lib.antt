@@ -9,6 +9,8 @@ pub mod Order
 pub mod EachLoad
 pub mod EaseKeepsLegal
 pub mod Easing
+pub mod Completing
+pub mod Containing
 pub mod Examples
 pub mod Determined
 pub mod Refusals

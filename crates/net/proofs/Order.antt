@@ -21,7 +21,7 @@ abbrev pub Rising : ℕ → ℕ → List ℕ → Type 0
 Rising w at [] = at ≤ w
 Rising w at (o ∷ os) = (at ≤ o) × Rising w o os
 
-after-after : {c d e : Entry} → After c d → After d e → After c e
+pub after-after : {c d e : Entry} → After c d → After d e → After c e
 after-after (higher x) (higher y) = higher (omega arith)
 after-after (higher x) (further y o) = higher (omega arith)
 after-after (further x o) (higher y) = higher (omega arith)

@@ -5,6 +5,7 @@ pub mod Net
 pub mod Tree
 pub mod Load
 pub mod Legal
+pub mod Complete
 pub mod Judge
 pub mod Checked
 pub mod Ease

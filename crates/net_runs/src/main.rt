@@ -40,20 +40,13 @@ fn judge_next() {
     ));
 }
 
-fn print_refusal(r: net::Refusal) {
-    let line = answer::refused_line(r);
-    let text = line.text;
-    let bytes = line.bytes;
-    io::write_all(libc::STDOUT_FILENO, &text[..bytes]);
-}
-
 fn tell(judged: net::Judged) {
     match judged {
         net::Judged::Sound => {
             io::write_all(1, b"sound\n");
         }
         net::Judged::Refused(r) => {
-            print_refusal(r);
+            answer::print_refused(libc::STDOUT_FILENO, r);
         }
     }
 }

@@ -3,3 +3,4 @@ pub mod Checks
 pub mod Files
 pub mod Carries
 pub mod Solves
+pub mod Finishes

@@ -3,6 +3,7 @@
 mod carries;
 mod checks;
 mod files;
+mod finishes;
 mod solves;
 
 use net::Judged;

@@ -10,21 +10,15 @@ ghost use Rattle.states.specs.States.{modelOf, st, CellOk, Small};
 ghost use Rattle.rows.specs.Rows.{loadAt, mixed, Mixed, slot, HasSlot, SmallAcc, FirstFit, Hung};
 ghost use Rattle.rows.specs.Sides.{sideOf, NodeSides, Lifted};
 
-pub fn wide(x: u32) -> u64
-    ensures { λ r. ⌜ r ≡ x ⌝ }
-{
-    x as u64
-}
-
 // The load for a surplus of e in the row at `at`, which no longer falls past `last`.
 pub fn load_at(rows: &[u32], at: usize, last: usize, e: usize) -> u64
     requires { ⌜ at + last < length (now rows) ⌝ }
     ensures { λ r. ⌜ r ≡ loadAt (now (rows .entry)) at last e ⌝ }
 {
     if e < last {
-        return wide(rows[at + e]);
+        return states::wide(rows[at + e]);
     }
-    wide(rows[at + last])
+    states::wide(rows[at + last])
 }
 
 // One load of a row with one wire more, which takes 0, 1 or 2 of the surplus e and then hands up a, b or c.
@@ -107,7 +101,7 @@ pub fn first_fit(rows: &[u32], at: usize, last: usize, limit: u64) -> usize
 {
     let mut e: usize = 0;
     while e <= last {
-        let x = wide(rows[at + e]);
+        let x = states::wide(rows[at + e]);
         if x <= limit {
             return e;
         }

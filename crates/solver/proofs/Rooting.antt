@@ -23,12 +23,12 @@ use Rattle.tables.specs.Tables.{Tables, headOf, manyOf, slotOf, Holds, Filled}
 use Rattle.tables.proofs.Ready.{Fit, fit}
 use Rattle.cuts.specs.Choice.{Under, Budgeted, Budget}
 use Rattle.walk.specs.Walk.{senseAt, leftAt, Alive, offsOf, Walked}
-use Rattle.entries.specs.Columns.{wireColumn, offsetColumn}
+use Rattle.columns.specs.Columns.{roomIn, Kept, wireColumn, offsetColumn}
 use Rattle.solver.specs.declared.Source.{Source}
 use Rattle.solver.specs.declared.Solved.{Solved}
 use Rattle.solver.specs.declared.Solved.the-variants.{Placed, Refused}
 use Rattle.solver.specs.Answer as answer
-use Rattle.solver.specs.Answer.{roomIn, Kept, Outcome}
+use Rattle.solver.specs.Answer.{Outcome}
 use Rattle.solver.specs.Source.{atSense, Picks, SourceOk, Rooted}
 
 -- ---- which polarity

@@ -1,34 +1,18 @@
 -- What the solver answers, over the definitions of crate `net` alone. Document 01: "The solver is one call for both types; it goes on with 8, then 9."
-use Prim.Native.Nat.{ℕ, _≤_, _<_, min}
+use Prim.Native.Nat.{ℕ, _≤_, _<_}
 use mathlib.Core.Path.{_≡_}
 use mathlib.Core.List.{List}
 use lib.ListN.{length}
-use lib.Seq.{sets}
 use Rattle.net.specs.declared.Entry.{Entry}
 use Rattle.net.specs.declared.Refusal.the-variants.{NoLegalPlacement, NoRoom}
 use Rattle.net.specs.declared.Judged.{Judged}
 use Rattle.net.specs.declared.Judged.the-variants as judge
-use Rattle.net.specs.Figures.{mostEntries}
 use Rattle.net.specs.Net.{Net}
 use Rattle.net.specs.Refusal.{numberOf, placeOf}
 use Rattle.net.specs.Legal.{Legal, Least, NoneLegal}
-use Rattle.entries.specs.Columns.{wireColumn, offsetColumn}
+use Rattle.columns.specs.Columns.{roomIn, Kept, Holds}
 use Rattle.solver.specs.declared.Solved.{Solved}
 use Rattle.solver.specs.declared.Solved.the-variants.{Placed, Refused}
-
--- "Columns lent to be filled may differ in length; the shortest is the room", and "lent room, or 4,096 entries"
-abbrev pub roomIn : List ℕ → List ℕ → ℕ
-roomIn ws os = min (min (length ws) (length os)) mostEntries
-
--- the columns ws and os are as they were
-pub record Kept (ws os ws′ os′ : List ℕ) : Type 0 where
-  pub wires : ws′ ≡ ws
-  pub offsets : os′ ≡ os
-
--- the entries of p stand in the first places, and no other place has changed
-pub record Holds (p : List Entry) (ws os ws′ os′ : List ℕ) : Type 0 where
-  pub wires : ws′ ≡ sets ws 0 (wireColumn p)
-  pub offsets : os′ ≡ sets os 0 (offsetColumn p)
 
 -- of a net that is sound: 8 where no placement is legal, 9 with the least count where there is no room for it, else a legal placement with the least count
 pub data Outcome (n : Net) (ws os ws′ os′ : List ℕ) (r : Solved) : Type 0 where

@@ -61,13 +61,6 @@ fn at_source(c: Cell, rows: &[u32], plus: &[u64], minus: &[u64], last: usize, k:
     }
 }
 
-// The room: the shorter of two columns, and at most 4,096.
-fn room(a: usize, b: usize) -> u64
-    ensures { λ r. ⌜ r ≡ min (min a b) mostEntries ⌝ }
-{
-    states::least(states::least(a as u64, b as u64), 4096)
-}
-
 // A placement with the least count m, from the source's polarity p and surplus e.
 fn place(
     c: Cell,
@@ -155,7 +148,7 @@ fn answer(
     let Side::Has(m, _, _) = side else {
         return Solved::Refused(net::Refusal::NoLegalPlacement);
     };
-    if room(wires.len(), offsets.len()) < m {
+    if columns::room(wires.len(), offsets.len()) < m {
         return Solved::Refused(net::Refusal::NoRoom(m));
     }
     place(

@@ -36,7 +36,7 @@ pub fn push(
     let s = rows::node_sides(
         c,
         kind[i],
-        rows::wide(pin[i]),
+        states::wide(pin[i]),
         polarity[i],
         rows,
         plus,
@@ -44,7 +44,7 @@ pub fn push(
         own,
         h,
     );
-    let r = rows::lift(c, rows::wide(wire[i]), s);
+    let r = rows::lift(c, states::wide(wire[i]), s);
     let v = parent[i] as usize;
     let k = head[v];
     let last = many[k] * 2;

@@ -12,7 +12,8 @@ use Rattle.frontier.specs.Plan.{GoodW, topW}
 use Rattle.frontier.specs.Frontier.{State, lost, has, Acc, fail, all, ifz, acc, conv, close, leaf, width}
 use Rattle.frontier.specs.Cert.{Table}
 use Rattle.frontier.proofs.Lower.{Tidy, close-tidy, leaf-tidy}
-use Rattle.frontier.proofs.Attained.{spread, spread-length}
+use Rattle.frontier.specs.Spaced.{spread}
+use Rattle.frontier.proofs.Attained.{spread-length}
 use Rattle.rows.specs.Rows.{loadAt, mixed, accOf}
 use Rattle.rows.specs.Sides.{sideOf}
 use Rattle.rows.proofs.Joining.{conv-mixed}
@@ -21,7 +22,7 @@ use Rattle.tables.proofs.Filling.{count-of}
 use Rattle.cuts.specs.declared.Cut.{Cut}
 use Rattle.cuts.specs.declared.Target.{Target}
 use Rattle.cuts.specs.Choice.{f3, Shared, Under, Met, Aim, Aimed, Budgeted, Budget, By, plain, turned, CutOk}
-use Rattle.cuts.specs.Offsets.{steps, offsets}
+use Rattle.cuts.specs.Offsets.{offsets}
 use Rattle.cuts.proofs.Aiming.{turn-same, turn-other}
 use Rattle.walk.specs.Walk.{Within, Alive, WireOk, Parts, Decided}
 use Rattle.walk.proofs.Ending.{within-budget}

@@ -9,10 +9,11 @@ use Rattle.frontier.specs.Cell.{Kind, buf, inv, Cell}
 use Rattle.frontier.specs.Plan.{GoodW, topW}
 use Rattle.frontier.specs.Frontier.{State, lost, has, T, req}
 use Rattle.frontier.proofs.Lower.{Tidy, T-mono, ceil-ok}
-use Rattle.frontier.proofs.Attained.{spread, spread-length, spread-good, spread-top, add-good, add-top}
+use Rattle.frontier.specs.Spaced.{spread, steps}
+use Rattle.frontier.proofs.Attained.{spread-length, spread-steps, spread-good, spread-top, add-good, add-top}
 use Rattle.states.proofs.Leaves.{req-ok, T-fits}
 use Rattle.cuts.specs.Choice.{Under, Loads, One, Met}
-use Rattle.cuts.specs.Offsets.{steps, offsets}
+use Rattle.cuts.specs.Offsets.{offsets}
 
 -- k more at the upper end
 abbrev pub stack : List ℕ → ℕ → ℕ → List ℕ
@@ -23,19 +24,11 @@ stack os (suc k) w = stack (os ++ (w ∷ [])) k w
 abbrev pub stacked : Cell → ℕ → ℕ → ℕ → ℕ → List ℕ
 stacked τ w h r k = stack (spread τ w 0 h r) k w
 
--- these are the offsets that are written
-spread-steps : (τ : Cell) → τ.cu ≡ τ.cb + τ.D → (w at b r : ℕ) → spread τ w at b r ≡ steps w τ.D (min w (at + (τ.cu - b))) r
-unfolding spread steps
-spread-steps τ eq w at b zero = refl
-spread-steps τ eq w at b (suc r) =
-    let o : ℕ = min w (at + (τ.cu - b)) in
-    let d : τ.cu - τ.cb ≡ τ.D = omega arith in
-    ap (λ (os : List ℕ). o ∷ os) (spread-steps τ eq w o τ.cb r ∙ ap (λ (x : ℕ). steps w τ.D (min w (o + x)) r) d)
-
 stack-replicate : (os : List ℕ) (k w : ℕ) → stack os k w ≡ os ++ replicate k w
 stack-replicate os zero w = sym (append-nil os)
 stack-replicate os (suc k) w = stack-replicate (os ++ (w ∷ [])) k w ∙ append-assoc os (w ∷ []) (replicate k w)
 
+-- these are the offsets that are written
 pub offsets-are : (τ : Cell) → τ.cu ≡ τ.cb + τ.D → (w h r k : ℕ) → offsets τ w h r k ≡ stacked τ w h r k
 offsets-are τ eq w h r k =
     let z : 0 + (τ.cu - h) ≡ τ.cu - h = omega arith in

@@ -43,7 +43,7 @@ pub fn decide(
     let s = rows::node_sides(
         c,
         kind[i],
-        rows::wide(pin[i]),
+        states::wide(pin[i]),
         polarity[i],
         rows,
         plus,
@@ -53,7 +53,7 @@ pub fn decide(
     );
     let x = s.plus;
     let y = s.minus;
-    let w = rows::wide(wire[i]);
+    let w = states::wide(wire[i]);
     if p == 0 {
         let g = cuts::aim_at(c, rows, many, next, plus, plus_load, plus_more, 0, e, i);
         return cuts::cut_wire(c, w, x, y, rows, last, k, 0, g);

@@ -9,13 +9,14 @@ use Rattle.net.specs.Net.{net}
 use Rattle.states.specs.States.{modelOf, limitsOf}
 use Rattle.walk.specs.Walk.{belowAt, spacedAt, toppedAt, offsOf}
 use Rattle.cuts.specs.Offsets.{offsets}
-use Rattle.entries.proofs.Listing.{Listing, listing-none, listing-room, listing-more, listing-all, on-wire, wires-long, offsets-long}
+use Rattle.columns.proofs.Listing.{Listing, listing-none, listing-room, listing-more, listing-all, wires-long, offsets-long}
+use Rattle.entries.proofs.Wiring.{on-wire}
 use Rattle.entries.proofs.write_all.Statement.{statement}
 use Rattle.entries.proofs.write_all.Tie as tie
 
 abbrev Inv-loop : tie.InvT-loop
 Inv-loop c parent wire kind pin polarity walked wires₀ offsets₀ i₀ at₀ wires offsets i at =
-    Listing (net (limitsOf c) parent wire kind pin polarity) (offsOf (modelOf c) (net (limitsOf c) parent wire kind pin polarity) walked) wires₀ wires offsets₀ offsets i at
+    Listing (length parent) (offsOf (modelOf c) (net (limitsOf c) parent wire kind pin polarity) walked) wires₀ wires offsets₀ offsets i at
 
 abbrev μ-loop : tie.MeasureT-loop
 μ-loop c parent wire kind pin polarity walked wires₀ offsets₀ i₀ at₀ wires offsets i at = length wire - i

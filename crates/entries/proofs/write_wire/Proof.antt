@@ -4,7 +4,8 @@ use Prim.Native.Nat.{min}
 use mathlib.Core.Path.{ap, _∙_}
 use borrow.Author.Needs.{needs}
 use Rattle.states.specs.States.{modelOf}
-use Rattle.entries.proofs.Spacing.{both-wires, both-offsets}
+use Rattle.columns.proofs.Spacing.{both-wires}
+use Rattle.entries.proofs.Wiring.{both-offsets}
 use Rattle.entries.proofs.write_wire.Statement.{statement}
 use Rattle.entries.proofs.write_wire.Tie as tie
 

@@ -1,0 +1,3 @@
+pub mod Walking
+pub mod Storing
+pub mod Summing

@@ -1,0 +1,29 @@
+-- The two columns that are lent to be filled with entries.
+use Prim.Native.Nat.{ℕ, min}
+use mathlib.Core.Path.{_≡_}
+use mathlib.Core.List.{List, map}
+use lib.ListN.{length}
+use lib.Seq.{sets}
+use Rattle.net.specs.declared.Entry.{Entry}
+use Rattle.net.specs.Figures.{mostEntries}
+
+-- Document 01: "A placement in memory is two columns, wire and offset."
+abbrev pub wireColumn : List Entry → List ℕ
+wireColumn p = map (λ e. e .wire) p
+
+abbrev pub offsetColumn : List Entry → List ℕ
+offsetColumn p = map (λ e. e .offset) p
+
+-- "Columns lent to be filled may differ in length; the shortest is the room", and "lent room, or 4,096 entries"
+abbrev pub roomIn : List ℕ → List ℕ → ℕ
+roomIn ws os = min (min (length ws) (length os)) mostEntries
+
+-- the columns ws and os are as they were
+pub record Kept (ws os ws′ os′ : List ℕ) : Type 0 where
+  pub wires : ws′ ≡ ws
+  pub offsets : os′ ≡ os
+
+-- the entries of p stand in the first places, and no other place has changed
+pub record Holds (p : List Entry) (ws os ws′ os′ : List ℕ) : Type 0 where
+  pub wires : ws′ ≡ sets ws 0 (wireColumn p)
+  pub offsets : os′ ≡ sets os 0 (offsetColumn p)

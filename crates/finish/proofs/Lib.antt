@@ -1,0 +1,7 @@
+pub mod Leading
+pub mod Clearing
+pub mod Finishing
+pub mod Judging
+pub mod Determined
+pub mod Demands
+pub mod Examples

@@ -1,0 +1,45 @@
+-- Document 02, Item 4: "keep every given entry and add the fewest that make the whole legal."
+use Prim.Native.Nat.{ℕ, _+_, _≤_}
+use mathlib.Core.Path.{_≡_}
+use mathlib.Core.Bool.{Bool}
+use mathlib.Core.List.{List, [], _∷_}
+use lib.ListN.{length}
+use lib.Dec.{eqb}
+use Rattle.net.specs.declared.Entry.{Entry}
+use Rattle.net.specs.Choose.{pick, both}
+use Rattle.net.specs.Net.{Net}
+use Rattle.net.specs.Legal.{Legal}
+
+-- the whole is the given ones and the added ones, each in its own order: no other, and none left out
+pub data Joins {A : Type 0} : List A → List A → List A → Type 0 where
+  end : Joins [] [] []
+  given : {x : A} {g a whole : List A} → Joins g a whole → Joins (x ∷ g) a (x ∷ whole)
+  added : {x : A} {g a whole : List A} → Joins g a whole → Joins g (x ∷ a) (x ∷ whole)
+
+-- with the added entries a the given entries g become a legal placement
+pub record Completes (n : Net) (g a : List Entry) : Type 0 where
+  pub whole : List Entry
+  pub joins : Joins g a whole
+  pub legal : Legal n whole
+
+-- k added entries make the given ones legal, and no fewer do
+pub record LeastAdded (n : Net) (g : List Entry) (k : ℕ) : Type 0 where
+  pub entries : List Entry
+  pub completes : Completes n g entries
+  pub count : length entries ≡ k
+  pub fewest : (a : List Entry) → Completes n g a → k ≤ length a
+
+-- "no legal placement contains all the given entries"
+abbrev pub NoneCompletes : Net → List Entry → Type 0
+NoneCompletes n g = (a : List Entry) → Completes n g a → ⊥
+
+-- the other reading of "contains": "equal entries counted as often as they are given"
+abbrev pub sameEntry : Entry → Entry → Bool
+sameEntry d e = both (eqb (d .wire) (e .wire)) (eqb (d .offset) (e .offset))
+
+unfoldable pub times : Entry → List Entry → ℕ
+times e [] = 0
+times e (d ∷ ds) = pick (sameEntry d e) 1 0 + times e ds
+
+abbrev pub Contains : List Entry → List Entry → Type 0
+Contains whole g = (e : Entry) → times e g ≤ times e whole

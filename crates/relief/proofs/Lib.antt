@@ -1,0 +1,6 @@
+pub mod Pieces
+pub mod Runs
+pub mod WireLower
+pub mod Lower
+pub mod Reach
+pub mod Least
