@@ -62,8 +62,9 @@ fn piece(c: Cell, w: u64, lead: u64, h: u64) -> u64
     if lead == 0 {
         return w + h;
     }
+    let own = c.pin;
     let o = lead - 1;
-    (w - o) + c.pin
+    (w - o) + own
 }
 
 // What the wire hands up with as few buffers as serve.

@@ -114,7 +114,8 @@ fn judge_half(
     if let net::Judged::Refused(x) = own {
         return net::Judged::Refused(x);
     }
-    if limits.repeater != 0 {
+    let repeater = limits.repeater;
+    if repeater != 0 {
         return net::Judged::Refused(net::Refusal::OutOfRange(0));
     }
     checker::entries_stand(wire, given, offsets)

@@ -27,15 +27,15 @@ enum-told c = search needs
 
 returns-2 : tie.Need-returns-2
 returns-2 c =
-    let s = c .before .before .before .before .before .before .before .before .before .before .before .before .args in half-type (netAt (s .limits) (s .parent) (s .wire) (s .kind) (s .pin) (s .polarity)) (s .given .now) (s .offsets .now) (sym (c .before .before .before .before .judge .ensures) ∙ c .before .before .enum-told .given .1) (c .if1 .taken)
+    let s = c .before .before .before .before .before .before .before .before .before .before .before .args in half-type (netAt (s .limits) (s .parent) (s .wire) (s .kind) (s .pin) (s .polarity)) (s .given .now) (s .offsets .now) (sym (c .before .before .before .judge .ensures) ∙ c .before .enum-told .given .1) (c .if1 .taken)
 
 entries-stand-requires : tie.Need-entries-stand-requires
 entries-stand-requires c κs = search needs
 
 returns-3 : tie.Need-returns-3
 returns-3 c =
-    let s = c .before .before .before .before .before .before .before .before .before .before .before .before .before .args in
-    let e = sym (c .before .before .before .before .before .judge .ensures) ∙ c .before .before .before .enum-told .given .1 in
+    let s = c .before .before .before .before .before .before .before .before .before .before .before .before .args in
+    let e = sym (c .before .before .before .before .judge .ensures) ∙ c .before .before .enum-told .given .1 in
     half-rest (netAt (s .limits) (s .parent) (s .wire) (s .kind) (s .pin) (s .polarity)) (s .given .now) (s .offsets .now) (c .entries-stand .result) e (c .before .if1 .left) (c .entries-stand .ensures (netAt (s .limits) (s .parent) (s .wire) (s .kind) (s .pin) (s .polarity)) (has-wires (sound-says (netAt (s .limits) (s .parent) (s .wire) (s .kind) (s .pin) (s .polarity)) e)))
 
 pub judge-half-spec : {M : Type 1} → statement M
