@@ -75,6 +75,17 @@ static struct ref_answer check(struct ref_limits limits, struct net_columns net,
     return turned(c_check(&l, &c, list.wire, list.offset, entries, source));
 }
 
+static struct ref_answer finish(struct ref_limits limits, struct net_columns net,
+                                struct entry_columns given, struct entry_columns to)
+{
+    struct limits l = limits_of(limits);
+    struct columns c = judged_columns(net);
+    size_t givens = given.wires == given.offsets ? given.wires : ENTRIES + 1;
+    return turned(c_finish(&l, &c, given.wire, given.offset, givens, to.wire, to.offset,
+                           lower(to.wires, to.offsets)));
+}
+
 const struct calls plain_calls = {
     .name = "plain C", .read_net = read_net, .judge = judge, .solve = solve, .check = check,
+    .finish = finish,
 };

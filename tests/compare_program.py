@@ -118,8 +118,8 @@ def changed_files(count):
 
 
 def examples(tally):
-    for twin in sorted((ROOT / "examples").glob("*.hex")):
-        file = twin.with_suffix(".net")
+    for file in sorted((ROOT / "examples").glob("*.net")):
+        twin = file.with_suffix(".hex")
         answer = ask(file=file)
         tally.judged(file.name, file.read_bytes(), answer)
         tally.expect(ask(data=file.read_bytes()) == answer, f"{file.name}: another answer on standard input")

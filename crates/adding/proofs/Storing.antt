@@ -1,23 +1,23 @@
 -- What is stored into the lent columns, run after run.
-use Prim.Native.Nat.{ℕ, zero, suc, _+_, _-_, _≤_, _<_, min}
+use Prim.Native.Nat.{ℕ, suc, _+_, _-_, _≤_, _<_, min}
 use mathlib.Core.Path.{_≡_, refl, sym, subst, ap, _∙_}
 use mathlib.Core.List.{List, [], _∷_, _++_}
 use lib.ListN.{length, getD, replicate, length-append, length-replicate}
 use lib.Seq.{sets, length-sets}
 use native.Mathlib.Omega.{arith}
 use Rattle.net.specs.Load.{offsetsOn}
+use Rattle.net.specs.Figures.{mostLimit}
 use Rattle.frontier.specs.Cell.{Cell}
 use Rattle.frontier.specs.Frontier.{ceil}
 use Rattle.frontier.specs.Spaced.{spread, steps}
-use Rattle.frontier.proofs.Lower.{ceil-least}
 use Rattle.frontier.proofs.Attained.{spread-length, spread-steps}
-use Rattle.columns.proofs.Spacing.{sets-append, steps-length, steps-still, both-wires}
+use Rattle.columns.proofs.Spacing.{sets-append, steps-still, both-wires}
 use Rattle.relief.specs.Pieces.{addedFrom}
 use Rattle.relief.specs.Runs.{from}
 use Rattle.relief.proofs.Runs.{here}
 use Rattle.adding.specs.declared.Wire.{Wire}
 use Rattle.adding.specs.declared.Walked.{Walked}
-use Rattle.adding.specs.Walks.{Begins, Through, Passed, Stores, Wrote, WroteAll, Room}
+use Rattle.adding.specs.Walks.{Begins, Passed, Stores, Wrote, WroteAll, Room}
 use Rattle.adding.proofs.Walking.{entry-at, Walking, walking-start, walking-more, passed-all, passed-other}
 
 -- ---- none, and one run after the other
@@ -65,7 +65,7 @@ pub record Writing (τ : Cell) (ws os : List ℕ) (first : ℕ) (x : Wire) (to :
 abbrev pub whole : Cell → List ℕ → List ℕ → ℕ → Wire → List ℕ
 whole τ ws os e x = addedFrom τ (x .size) (x .top) 0 (x .below) (offsetsOn (from ws os e) (x .number))
 
-module _ {τ : Cell} {ws os : List ℕ} {first : ℕ} {x : Wire} {to : ℕ} {wires₀ offs₀ : List ℕ} (eq : τ.cu ≡ τ.cb + τ.D) (pos : 1 ≤ τ.D) (small : τ.cu ≤ 1000000) (b : Begins τ ws os first x) where
+module _ {τ : Cell} {ws os : List ℕ} {first : ℕ} {x : Wire} {to : ℕ} {wires₀ offs₀ : List ℕ} (eq : τ.cu ≡ τ.cb + τ.D) (pos : 1 ≤ τ.D) (small : τ.cu ≤ mostLimit) (b : Begins τ ws os first x) where
   pub writing-start : Writing τ ws os first x to wires₀ offs₀ first to 0 (x .below) wires₀ offs₀ []
   writing-start = record { walking = walking-start eq pos small b; stores = stores-none (x .number) to wires₀ offs₀ }
 

@@ -1,18 +1,18 @@
 -- All the wires: the given entries are passed wire by wire, and what is left decides how many are added and which.
-use Prim.Native.Nat.{ℕ, zero, suc, _+_, _-_, _*_, _≤_, _<_}
+use Prim.Native.Nat.{ℕ, suc, _+_, _-_, _*_, _≤_, _<_}
 use mathlib.Core.Path.{_≡_, refl, sym, subst, ap, _∙_}
-use mathlib.Core.List.{List, [], _∷_, _++_}
-use lib.ListN.{length, getD, length-append}
+use mathlib.Core.List.{List}
+use lib.ListN.{length, length-append}
 use native.Mathlib.Omega.{arith}
 use Rattle.net.specs.declared.Entry.{Entry}
 use Rattle.net.specs.Load.{entries, offsetsOn}
-use Rattle.net.proofs.Order.{Rising}
+use Rattle.net.specs.Figures.{mostLimit}
 use Rattle.frontier.specs.Cell.{Cell}
 use Rattle.frontier.specs.Frontier.{ceil}
 use Rattle.frontier.specs.Placed.{onWire, onWires}
 use Rattle.columns.specs.Columns.{Holds}
 use Rattle.columns.proofs.Listing.{on-length, Listing, listing-none, listing-room, listing-more, listing-all, wires-long, offsets-long}
-use Rattle.relief.specs.Pieces.{addedFrom}
+use Rattle.relief.specs.Pieces.{mostPiece, addedFrom}
 use Rattle.relief.specs.Runs.{from, Sorted, past}
 use Rattle.relief.proofs.Runs.{past-sorted, past-offsets}
 use Rattle.adding.specs.declared.Wire.{Wire}
@@ -71,12 +71,12 @@ module _ {τ : Cell} {sizes below on ws os : List ℕ} (ready : Ready τ sizes b
   pub counting-start : Counting 1 0 0
   counting-start = record { lo = omega arith; lined = lined-start; left = omega arith; few = omega arith }
 
-  module _ (eq : τ.cu ≡ τ.cb + τ.D) (pos : 1 ≤ τ.D) (small : τ.cu ≤ 1000000) {i e to : ℕ} {x : Wire} {p : Walked} {done : List ℕ} (c : Counting i e to) (hi : i < length sizes) (is : IsWire sizes below on i x) (g : Passed τ ws os e x to p done) where
+  module _ (eq : τ.cu ≡ τ.cb + τ.D) (pos : 1 ≤ τ.D) (small : τ.cu ≤ mostLimit) {i e to : ℕ} {x : Wire} {p : Walked} {done : List ℕ} (c : Counting i e to) (hi : i < length sizes) (is : IsWire sizes below on i x) (g : Passed τ ws os e x to p done) where
     -- the uppermost piece
     pub last-low : p .at ≤ x .size
     last-low = low eq pos (g .through)
 
-    pub last-few : (x .size - p .at) + p .load ≤ 11000000
+    pub last-few : (x .size - p .at) + p .load ≤ mostPiece
     last-few = omega (arith, is .size, ready .size i, g .through .fits)
 
     pub place-few : p .to ≤ i * 50000000000 + 45056000000

@@ -9,16 +9,16 @@ use native.Mathlib.Nat.{mul-le-mul-left}
 use Rattle.net.specs.declared.Entry.{Entry}
 use Rattle.net.specs.Load.{entries, offsetsOn}
 use Rattle.net.proofs.Order.{Rising}
+use Rattle.net.specs.Figures.{mostLimit}
 use Rattle.frontier.specs.Cell.{Cell}
 use Rattle.frontier.specs.Frontier.{ceil}
 use Rattle.frontier.specs.Spaced.{spread}
 use Rattle.frontier.proofs.Lower.{ceil-least}
 use Rattle.frontier.proofs.Attained.{spread-length}
-use Rattle.relief.specs.Pieces.{addedFrom}
+use Rattle.relief.specs.Pieces.{mostPiece, addedFrom}
 use Rattle.relief.specs.Runs.{from, Sorted, past}
 use Rattle.relief.proofs.Runs.{sorted-on, here, none-lower, elsewhere, past-here, past-other, past-none}
 use Rattle.adding.specs.declared.Wire.{Wire}
-use Rattle.adding.specs.declared.Walked.{Walked}
 use Rattle.adding.specs.Walks.{Begins, Through, Passed}
 
 -- within the limit a piece takes none
@@ -44,8 +44,8 @@ rising-low : (w at : ℕ) (os : List ℕ) → Rising w at os → at ≤ w
 rising-low w at [] r = r
 rising-low w at (o ∷ os) r = omega (arith, r .0, rising-low w o os (r .1))
 
-pub ceil-few : (τ : Cell) → τ.cu ≡ τ.cb + τ.D → 1 ≤ τ.D → (v : ℕ) → v ≤ 11000000 → ceil τ v ≤ 11000000
-ceil-few τ eq pos v h = let m : 11000000 * 1 ≤ 11000000 * τ.D = mul-le-mul-left 11000000 pos in omega (arith, ceil-least τ eq pos v 11000000 (omega arith))
+pub ceil-few : (τ : Cell) → τ.cu ≡ τ.cb + τ.D → 1 ≤ τ.D → (v : ℕ) → v ≤ mostPiece → ceil τ v ≤ mostPiece
+ceil-few τ eq pos v h = let m : mostPiece * 1 ≤ mostPiece * τ.D = mul-le-mul-left mostPiece pos in omega (arith, ceil-least τ eq pos v mostPiece (omega arith))
 
 module _ {τ : Cell} (eq : τ.cu ≡ τ.cb + τ.D) (pos : 1 ≤ τ.D) {x : Wire} {all : List Entry} where
   pub through-start : Sorted (x .number) all → Rising (x .size) 0 (offsetsOn all (x .number)) → x .below ≤ τ.cu → Through τ x all [] 0 (x .below) all
@@ -83,20 +83,13 @@ pub record Walking (τ : Cell) (ws os : List ℕ) (first : ℕ) (x : Wire) (to e
   pub through : Through τ x (from ws os first) done at load (from ws os e)
   pub place : k ≡ to + length done
   pub within : e ≤ length ws
-  pub few : k ≤ to + e * 11000000
+  pub few : k ≤ to + e * mostPiece
 
-module _ {τ : Cell} {ws os : List ℕ} {first : ℕ} {x : Wire} {to : ℕ} (eq : τ.cu ≡ τ.cb + τ.D) (pos : 1 ≤ τ.D) (small : τ.cu ≤ 1000000) (b : Begins τ ws os first x) where
+module _ {τ : Cell} {ws os : List ℕ} {first : ℕ} {x : Wire} {to : ℕ} (eq : τ.cu ≡ τ.cb + τ.D) (pos : 1 ≤ τ.D) (small : τ.cu ≤ mostLimit) (b : Begins τ ws os first x) where
   pub walking-start : Walking τ ws os first x to first to 0 (x .below) []
   walking-start = record { through = through-start eq pos (b .sorted) (b .rises) (b .fits); place = omega arith; within = b .within; few = omega arith }
 
   module _ {e k at load : ℕ} {done : List ℕ} (g : Walking τ ws os first x to e k at load done) where
-    -- the piece above is no larger than a wire and a load
-    pub piece-few : (w : ℕ) → w ≤ x .size → (w - at) + load ≤ 11000000
-    piece-few w h = omega (arith, b .size, g .through .fits)
-
-    pub walking-low : at ≤ x .size
-    walking-low = low eq pos (g .through)
-
     module _ (h : e < length ws) (on : getD ws e 0 ≡ x .number) where
       at-head : Through τ x (from ws os first) done at load (record { wire = getD ws e 0; offset = getD os e 0 } ∷ from ws os (suc e))
       at-head = subst (Through τ x (from ws os first) done at load) (entry-at ws os e (b .same) h) (g .through)

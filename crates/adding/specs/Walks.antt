@@ -1,5 +1,5 @@
 -- The entries that are added to the given ones, wire after wire: what the walks through both ask, and where they come to.
-use Prim.Native.Nat.{ℕ, suc, _+_, _-_, _*_, _≤_, _<_}
+use Prim.Native.Nat.{ℕ, _+_, _-_, _*_, _≤_, _<_}
 use mathlib.Core.Path.{_≡_}
 use mathlib.Core.List.{List, [], _++_}
 use lib.ListN.{length, getD, replicate}
@@ -10,7 +10,7 @@ use Rattle.net.specs.Load.{entries, offsetsOn}
 use Rattle.net.proofs.Order.{Rising}
 use Rattle.frontier.specs.Cell.{Cell}
 use Rattle.frontier.specs.Placed.{onWires}
-use Rattle.relief.specs.Pieces.{addedFrom}
+use Rattle.relief.specs.Pieces.{mostPiece, addedFrom}
 use Rattle.relief.specs.Runs.{from, Sorted, past}
 use Rattle.adding.specs.declared.Wire.{Wire}
 use Rattle.adding.specs.declared.Walked.{Walked}
@@ -69,7 +69,7 @@ pub record Passed (τ : Cell) (ws os : List ℕ) (e : ℕ) (x : Wire) (k : ℕ) 
   pub next : from ws os (r .next) ≡ past (x .number) (from ws os e)
   pub to : r .to ≡ k + length done
   pub within : r .next ≤ length ws
-  pub few : r .to ≤ k + r .next * 11000000
+  pub few : r .to ≤ k + r .next * mostPiece
 
 -- the lent columns after vs are stored for wire i from the place `to` on
 pub record Stores (vs : List ℕ) (i to : ℕ) (wires offs wires′ offs′ : List ℕ) : Type 0 where

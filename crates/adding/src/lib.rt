@@ -3,13 +3,13 @@ use states::Cell;
 ghost use mathlib.Core.Path.{_≡_};
 ghost use Prim.Native.Nat.{ℕ, _+_, _-_, _≤_, _<_};
 ghost use lib.ListN.{length};
-ghost use Rattle.net.specs.Figures.{mostWire};
+ghost use Rattle.net.specs.Figures.{mostWire, mostPlaces};
 ghost use Rattle.net.specs.Load.{entries, offsetsOn};
 ghost use Rattle.frontier.specs.Frontier;
 ghost use Rattle.frontier.specs.Spaced.{spread};
 ghost use Rattle.columns.specs.Columns.{Holds};
 ghost use Rattle.states.specs.States.{modelOf, CellOk};
-ghost use Rattle.relief.specs.Pieces.{addedFrom};
+ghost use Rattle.relief.specs.Pieces.{mostPiece, addedFrom};
 ghost use Rattle.relief.specs.Runs;
 ghost use Rattle.adding.specs.Walks.{allAdded, Ready, IsWire, Begins, Counts, Stores, Wrote, WroteAll, Room};
 
@@ -31,7 +31,7 @@ pub struct Walked {
 }
 
 fn wire_at(wire: &[u32], below: &[u32], on: &[u8], i: usize) -> Wire
-    requires { ⌜ (i < 1025) × (i < length (now wire)) × (i < length (now below)) × (i < length (now on)) ⌝ }
+    requires { ⌜ (i < mostPlaces) × (i < length (now wire)) × (i < length (now below)) × (i < length (now on)) ⌝ }
     ensures { λ x. ⌜ IsWire (now (wire .entry)) (now (below .entry)) (now (on .entry)) i x ⌝ }
 {
     let number = i as u16;
@@ -48,8 +48,8 @@ fn wire_at(wire: &[u32], below: &[u32], on: &[u8], i: usize) -> Wire
 
 // How many buffers a piece of wire takes, v its size and what hangs below it.
 fn takes(c: Cell, v: u64) -> usize
-    requires { ⌜ CellOk c × (v ≤ 11000000) ⌝ }
-    ensures { λ r. ⌜ (r ≡ Frontier.ceil (modelOf c) v) × (r ≤ 11000000) ⌝ }
+    requires { ⌜ CellOk c × (v ≤ mostPiece) ⌝ }
+    ensures { λ r. ⌜ (r ≡ Frontier.ceil (modelOf c) v) × (r ≤ mostPiece) ⌝ }
 {
     if v <= c.limit {
         return 0;

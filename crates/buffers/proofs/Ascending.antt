@@ -1,7 +1,6 @@
 -- The way up as the loop keeps it.
-use Prim.Native.Nat.{ℕ, zero, suc, _+_, _-_, _≤_, _<_}
-use mathlib.Core.Path.{_≡_, refl, sym, subst, ap, _∙_}
-use mathlib.Core.List.{List}
+use Prim.Native.Nat.{ℕ, _≤_}
+use mathlib.Core.Path.{_≡_, refl, sym, ap, _∙_}
 use lib.ListN.{length}
 use native.Mathlib.Omega.{arith}
 use Rattle.net.specs.Net.{Net, places}
@@ -21,9 +20,6 @@ pub record Way (τ : Cell) (n : Net) (L : ℕ → ℕ) (t u : Tables) (i : ℕ) 
   pub hi : i ≤ places n
   pub going : Going τ n L u i i
   pub same : Same t u
-
-pub same-on : {t u v : Tables} → Same t u → Same u v → Same t v
-same-on a b = record { below = b .below ∙ a .below; tops = b .tops ∙ a .tops; on = b .on ∙ a .on; links = b .links ∙ a .links }
 
 abbrev as-number : Bool → ℕ
 as-number true = 1

@@ -1,13 +1,11 @@
 -- The wires under a node, as a list: which they are, and what the tree's statements about them say of the list.
-use Prim.Native.Nat.{ℕ, zero, suc, _+_, _-_, _*_, _≤_, _<_}
+use Prim.Native.Nat.{ℕ, zero, suc, _-_, _≤_, _<_}
 use mathlib.Core.Path.{_≡_, refl, sym, subst, ap, _∙_}
 use mathlib.Core.List.{List, [], _∷_}
-use lib.ListN.{length, getD}
-use lib.Dec.{eqb}
+use lib.ListN.{length}
 use native.Mathlib.Omega.{arith}
 use native.Mathlib.Decide.{ℕ-discrete}
 use borrow.Author.Tests.{eq-eqb, ne-eqb}
-use Rattle.net.specs.Choose.{pick}
 use Rattle.net.specs.Net.{Net, places, parent, kind}
 use Rattle.net.specs.Tree.{Hanging, none, sink, branch, hung, hanging}
 use Rattle.net.specs.Legal.{Each}

@@ -1,22 +1,23 @@
 -- A wire is joined to its parent: a chain that is one longer, a load with what the wire hands up.
-use Prim.Native.Nat.{ℕ, zero, suc, _+_, _-_, _*_, _≤_, _<_}
+use Prim.Native.Nat.{ℕ, suc, _+_, _*_, _≤_, _<_}
 use mathlib.Core.Path.{_≡_, refl, sym, subst, ap, _∙_}
 use mathlib.Core.List.{List, [], _∷_}
 use lib.ListN.{length, getD, set, length-set}
 use lib.Seq.{getD-set-same, getD-set-other}
 use native.Mathlib.Omega.{arith}
 use native.Mathlib.Decide.{ℕ-discrete}
-use Rattle.net.specs.Net.{Net, places, parent, wire, kind, pin}
-use Rattle.net.specs.Tree.{Hanging, under}
+use Rattle.net.specs.Figures.{mostWire, mostLimit, mostPlaces}
+use Rattle.net.specs.Net.{Net, places, parent, wire}
+use Rattle.net.specs.Tree.{under}
 use Rattle.net.specs.Legal.{Each}
 use Rattle.net.specs.Sound.{SoundNet}
 use Rattle.frontier.specs.Cell.{Cell}
 use Rattle.relief.specs.Pieces.{bare, topped}
-use Rattle.relief.specs.Marks.{Relieved, Marks, hands, out, Marked}
-use Rattle.buffers.specs.Chain.{wiresOf, sumL, Chain, Among, here, there}
-use Rattle.buffers.specs.Going.{Tables, tables, marksOf, kids, Long, leadsIn, Led, Going, AtWire}
-use Rattle.buffers.proofs.Lists.{each-map, each-of, each-at, sum-same, sum-most}
-use Rattle.buffers.proofs.Kids.{Kid, kids-are, kids-take, kids-skip, kids-few, relieved-same}
+use Rattle.relief.specs.Marks.{Relieved, hands, out}
+use Rattle.buffers.specs.Chain.{sumL, Chain, Among, here, there}
+use Rattle.buffers.specs.Going.{Tables, tables, marksOf, kids, leadsIn, Going, AtWire}
+use Rattle.buffers.proofs.Lists.{each-of, sum-same, sum-most}
+use Rattle.buffers.proofs.Kids.{kids-are, kids-take, kids-skip, kids-few, relieved-same}
 use Rattle.buffers.proofs.Settling.{out-fits}
 
 chain-frame : (N : ℕ) (links links′ : List ℕ) (k : ℕ) (js : List ℕ) → ((j : ℕ) → Among j js → getD links′ j 0 ≡ getD links j 0) → Chain N links k js → Chain N links′ k js
@@ -30,7 +31,7 @@ chain-past : (N : ℕ) (links : List ℕ) (k : ℕ) (js : List ℕ) (i : ℕ) �
 chain-past N links k [] i h e c = omega arith
 chain-past N links k (j ∷ js) i h e c = omega (arith, e .0, c .0)
 
-module _ (τ : Cell) (eq : τ.cu ≡ τ.cb + τ.D) (pos : 1 ≤ τ.D) (small : τ.cu ≤ 1000000) {n : Net} (sound : SoundNet n) (L : ℕ → ℕ) (t : Tables) (i : ℕ) (lo : 1 ≤ i) (hi : i < places n) (g : Going τ n L t (suc i) i) where
+module _ (τ : Cell) (eq : τ.cu ≡ τ.cb + τ.D) (pos : 1 ≤ τ.D) (small : τ.cu ≤ mostLimit) {n : Net} (sound : SoundNet n) (L : ℕ → ℕ) (t : Tables) (i : ℕ) (lo : 1 ≤ i) (hi : i < places n) (g : Going τ n L t (suc i) i) where
   lower : parent n i < i
   lower = sound .lower i lo hi
 
@@ -38,7 +39,7 @@ module _ (τ : Cell) (eq : τ.cu ≡ τ.cb + τ.D) (pos : 1 ≤ τ.D) (small : �
   pub below-few : getD (t .below) (parent n i) 0 ≤ 1024000000
   below-few =
       let ks : List ℕ = kids n (suc i) (parent n i) in
-      let b : sumL (λ j. getD (t .tops) j 0) ks ≤ length ks * 1000000 = sum-most (λ j. getD (t .tops) j 0) 1000000 ks (each-of (λ j. getD (t .tops) j 0 ≤ 1000000) ks (λ j a. let k = kids-are n (suc i) (parent n i) hi j a in omega (arith, g .tops j (k .from) (k .within), out-fits τ eq pos sound L (marksOf (t .below) (t .on)) j))) in
+      let b : sumL (λ j. getD (t .tops) j 0) ks ≤ length ks * mostLimit = sum-most (λ j. getD (t .tops) j 0) mostLimit ks (each-of (λ j. getD (t .tops) j 0 ≤ mostLimit) ks (λ j a. let k = kids-are n (suc i) (parent n i) hi j a in omega (arith, g .tops j (k .from) (k .within), out-fits τ eq pos sound L (marksOf (t .below) (t .on)) j))) in
       omega (arith, g .sums (parent n i) lower, kids-few n (suc i) (parent n i), g .long .few, g .long .enough)
 
   module _ (a : ℕ) (is : a ≡ hands τ n L (marksOf (t .below) (t .on)) i) where
@@ -151,18 +152,17 @@ module _ (τ : Cell) (eq : τ.cu ≡ τ.cb + τ.D) (pos : 1 ≤ τ.D) (small : �
 pub record Reads (τ : Cell) (up ws leads below tops links : List ℕ) (i : ℕ) : Type 0 where
   pub in-up : i < length up
   pub in-wires : i < length ws
-  pub in-leads : i < length leads
   pub in-below : i < length below
   pub in-tops : i < length tops
   pub in-links : i < length links
-  pub few : i < 1025
+  pub few : i < mostPlaces
   pub lower : getD up i 0 < i
-  pub size : getD ws i 0 ≤ 10000000
+  pub size : getD ws i 0 ≤ mostWire
   pub lead : getD leads i 0 ≤ suc (getD ws i 0)
   pub load : getD below i 0 ≤ τ.cu
   pub sum : getD below (getD up i 0) 0 ≤ 1024000000
 
-module _ {τ : Cell} {up ws leads below tops links : List ℕ} {i : ℕ} (eq : τ.cu ≡ τ.cb + τ.D) (pos : 1 ≤ τ.D) (small : τ.cu ≤ 1000000) where
+module _ {τ : Cell} {up ws leads below tops links : List ℕ} {i : ℕ} (eq : τ.cu ≡ τ.cb + τ.D) (pos : 1 ≤ τ.D) (small : τ.cu ≤ mostLimit) where
   pub reads : (n : Net) (on : List ℕ) → AtWire τ up ws leads (tables below tops on links) i n → Reads τ up ws leads below tops links i
   reads n on a =
       let p : getD (n .parents) i 0 ≡ getD up i 0 = ap (λ (l : List ℕ). getD l i 0) (a .parents) in
@@ -171,7 +171,6 @@ module _ {τ : Cell} {up ws leads below tops links : List ℕ} {i : ℕ} (eq : �
       record {
         in-up = omega (arith, a .within, ap length (a .parents));
         in-wires = omega (arith, a .within, ap length (a .wires), a .sound .wires-long);
-        in-leads = omega (arith, a .within, a .led .long);
         in-below = omega (arith, a .within, l .enough, l .below);
         in-tops = omega (arith, a .within, l .enough);
         in-links = omega (arith, a .within, l .enough, l .links);

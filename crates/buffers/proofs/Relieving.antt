@@ -1,5 +1,5 @@
 -- Topping the heaviest wire keeps what makes the choice the best.
-use Prim.Native.Nat.{ℕ, zero, suc, _+_, _-_, _*_, _≤_, _<_}
+use Prim.Native.Nat.{ℕ, _+_, _-_, _≤_, _<_}
 use mathlib.Core.Path.{_≡_, refl, sym, subst, ap, _∙_}
 use mathlib.Core.List.{List, [], _∷_}
 use lib.ListN.{length, getD, set, length-set}
@@ -12,8 +12,8 @@ use Rattle.net.specs.Figures.{mostPlaces}
 use Rattle.relief.specs.Pieces.{topped}
 use Rattle.relief.specs.Marks.{Divides, light, heavy}
 use Rattle.buffers.specs.Chain.{Chain, Among, sumL, Chained, Heaviest, no-more, is-at}
-use Rattle.buffers.specs.Easing.{Fresh, Loaded, Easing, Ended, within, stuck, Eased}
-use Rattle.buffers.proofs.Lists.{each-map, each-of, each-at, sum-same, sum-least, Rises, sum-set, chain-rises, chain-low, chain-one}
+use Rattle.buffers.specs.Easing.{Fresh, Loaded, Easing, within, stuck, Eased}
+use Rattle.buffers.proofs.Lists.{each-of, each-at, sum-least, Rises, sum-set, chain-rises, chain-low, chain-one}
 
 -- what is topped hands up the pin, and what is not what it did
 pub data Either (τ : Cell) (x a k t : ℕ) : Type 0 where

@@ -1,11 +1,11 @@
 -- Going through a chain for its heaviest wire.
-use Prim.Native.Nat.{ℕ, zero, suc, _+_, _-_, _≤_, _<_}
-use mathlib.Core.Path.{_≡_, refl, sym, subst, ap, _∙_}
+use Prim.Native.Nat.{ℕ, _≤_, _<_}
+use mathlib.Core.Path.{_≡_, refl, sym, subst}
 use mathlib.Core.List.{List, [], _∷_}
 use lib.ListN.{length, getD}
 use native.Mathlib.Omega.{arith}
 use Rattle.net.specs.Legal.{Each}
-use Rattle.buffers.specs.Chain.{Chain, Among, here, there, Heaviest, no-more, is-at, Chained}
+use Rattle.buffers.specs.Chain.{Chain, Among, here, there, Heaviest, no-more, is-at}
 
 pub data Found (tops : List ℕ) (pin : ℕ) (js : List ℕ) (best most : ℕ) : Type 0 where
   nothing : best ≡ 0 → most ≡ pin → Found tops pin js best most

@@ -1,27 +1,28 @@
 -- A node gets its load: what was said of the other nodes and wires stays as it was.
-use Prim.Native.Nat.{ℕ, zero, suc, _+_, _-_, _*_, _≤_, _<_}
+use Prim.Native.Nat.{ℕ, zero, suc, _+_, _≤_, _<_}
 use mathlib.Core.Path.{_≡_, refl, sym, subst, ap, _∙_}
-use mathlib.Core.List.{List, [], _∷_}
+use mathlib.Core.List.{List}
 use lib.ListN.{length, getD, set, length-set}
-use lib.Seq.{getD-set-same, getD-set-other}
+use lib.Seq.{getD-set-same, getD-set-other, set-getD}
 use native.Mathlib.Omega.{arith}
-use native.Mathlib.Decide.{ℕ-discrete, decLt}
+use native.Mathlib.Decide.{ℕ-discrete}
+use Rattle.net.specs.Figures.{mostPlaces}
 use Rattle.net.specs.Net.{Net, places, parent, wire, kind, pin}
-use Rattle.net.specs.Tree.{Hanging, under}
+use Rattle.net.specs.Tree.{under}
 use Rattle.net.specs.Legal.{Each}
 use Rattle.net.specs.Sound.{SoundNet}
 use Rattle.frontier.specs.Cell.{Cell}
 use Rattle.frontier.specs.Cert.{sum}
-use Rattle.frontier.specs.Frontier.{ceil, T}
 use Rattle.relief.specs.Pieces.{piece, bare, topped}
 use Rattle.relief.proofs.Pieces.{T-ceil}
-use Rattle.relief.specs.Marks.{Divides, light, heavy, Relieved, Marks, hands, out, Marked, Stuck, pin-over, wires-over}
-use Rattle.buffers.specs.Chain.{wiresOf, sumL, Chain, Among, Chained}
+use Rattle.relief.specs.Marks.{Divides, light, heavy, Relieved, Marks, hands, out, Marked, pin-over, wires-over}
+use Rattle.buffers.specs.Chain.{sumL, Chain, Among}
 use Rattle.buffers.specs.Easing.{Fresh, Loaded, Easing, Ended, within, stuck, Eased}
 use mathlib.Core.Bool.{true, false}
-use Rattle.buffers.specs.Going.{Tables, tables, marksOf, kids, Long, Going, Lost, Tried, can, cannot, AtNode}
-use Rattle.buffers.proofs.Lists.{each-map, each-of, each-at, sum-same, sum-most}
-use Rattle.buffers.proofs.Kids.{Kid, kids-are, kids-has, kids-few, each-tree, sum-tree, relieved-same}
+use Rattle.buffers.specs.Going.{Tables, tables, marksOf, kids, Going, Lost, Tried, can, cannot, AtNode}
+use Rattle.buffers.proofs.Lists.{each-map, each-of, each-at, sum-same}
+use Rattle.buffers.proofs.Relieving.{easing-start}
+use Rattle.buffers.proofs.Kids.{kids-are, kids-has, each-tree, sum-tree, relieved-same}
 
 module _ (τ : Cell) (eq : τ.cu ≡ τ.cb + τ.D) (pos : 1 ≤ τ.D) {n : Net} (sound : SoundNet n) (L : ℕ → ℕ) where
   pub out-fits : (m : Marks) (j : ℕ) → out τ n L m j ≤ τ.cu
@@ -52,9 +53,6 @@ module _ (τ : Cell) (eq : τ.cu ≡ τ.cb + τ.D) (pos : 1 ≤ τ.D) {n : Net} 
       on-long = g .long .on;
       fresh = fresh-kids;
     }
-
-    pub going-chain : Chain (length (t .tops)) (t .links) (getD (t .links) i 0) (kids n (suc i) i)
-    going-chain = g .chains i (omega arith)
 
     -- ---- the tables after it
     module _ (tops on : List ℕ) (load : ℕ)
@@ -224,7 +222,7 @@ pub record Reads (ks ps : List ℕ) (t : Tables) (i : ℕ) : Type 0 where
   pub in-pins : i < length ps
   pub in-below : i < length (t .below)
   pub in-links : i < length (t .links)
-  pub few : i < 1025
+  pub few : i < mostPlaces
 
 module _ {τ : Cell} {ks ps : List ℕ} {t : Tables} {i : ℕ} (eq : τ.cu ≡ τ.cb + τ.D) (pos : 1 ≤ τ.D) where
   pub reads : (n : Net) (L : ℕ → ℕ) → AtNode τ ks ps t i n L → Reads ks ps t i
@@ -255,12 +253,19 @@ module _ {τ : Cell} {ks ps : List ℕ} {t : Tables} {i : ℕ} (eq : τ.cu ≡ �
     sink-in l n L a =
         can (subst (λ (x : ℕ). Going τ n L (tables (set (t .below) i x) (t .tops) (t .on) (t .links)) (suc i) i) (own-pin a) (pin-within eq pos (a .sound) (a .within) (a .going) (own-kind a ∙ k) (omega (arith, own-pin a))))
 
-  module _ (k : getD ks i 0 ≡ 1 → ⊥) (tops on : List ℕ) (load : ℕ) (e : (js : List ℕ) → Chain (length (t .tops)) (t .links) (getD (t .links) i 0) js → Eased τ (t .tops) (t .on) tops on js load) where
-    branch : {n : Net} {L : ℕ → ℕ} → AtNode τ ks ps t i n L → kind n i ≡ 0
-    branch {n} a = elim (ℕ-discrete (kind n i) 1) [ yes q ↦ absurd (k (sym (own-kind a) ∙ q)) | no ne ↦ (omega (arith, a .sound .kind-most i)) ]
+  branch : (getD ks i 0 ≡ 1 → ⊥) → {n : Net} {L : ℕ → ℕ} → AtNode τ ks ps t i n L → kind n i ≡ 0
+  branch k {n} a = elim (ℕ-discrete (kind n i) 1) [ yes q ↦ absurd (k (sym (own-kind a) ∙ q)) | no ne ↦ (omega (arith, a .sound .kind-most i)) ]
 
+  -- what hangs there fits as it is
+  pub node-fits : (getD ks i 0 ≡ 1 → ⊥) → getD (t .below) i 0 ≤ τ.cu → (n : Net) (L : ℕ → ℕ) → AtNode τ ks ps t i n L → Tried τ n L t (suc i) i true
+  node-fits k l n L a =
+      can (subst (λ (b : List ℕ). Going τ n L (tables b (t .tops) (t .on) (t .links)) (suc i) i) (set-getD (t .below) i 0)
+      (eased-within eq pos (a .sound) (a .within) (a .going) (t .tops) (t .on) (getD (t .below) i 0) (branch k a)
+      (record { easing = easing-start τ eq (t .tops) (t .on) (kids n (suc i) i) (getD (t .below) i 0) (fresh-kids τ eq pos (a .sound) L t i (a .going) (a .within)); ended = within l }) l))
+
+  module _ (k : getD ks i 0 ≡ 1 → ⊥) (tops on : List ℕ) (load : ℕ) (e : (js : List ℕ) → Chain (length (t .tops)) (t .links) (getD (t .links) i 0) js → Eased τ (t .tops) (t .on) tops on js load) where
     pub node-over : (u : Tables) → τ.cu < load → (n : Net) (L : ℕ → ℕ) → AtNode τ ks ps t i n L → Tried τ n L u (suc i) i false
-    node-over u o n L a = cannot (eased-stuck eq pos (a .sound) (a .within) (a .going) tops on load (branch a) (e (kids n (suc i) i) (a .going .chains i (omega arith))) o)
+    node-over u o n L a = cannot (eased-stuck eq pos (a .sound) (a .within) (a .going) tops on load (branch k a) (e (kids n (suc i) i) (a .going .chains i (omega arith))) o)
 
     pub node-in : load ≤ τ.cu → (n : Net) (L : ℕ → ℕ) → AtNode τ ks ps t i n L → Tried τ n L (tables (set (t .below) i load) tops on (t .links)) (suc i) i true
-    node-in l n L a = can (eased-within eq pos (a .sound) (a .within) (a .going) tops on load (branch a) (e (kids n (suc i) i) (a .going .chains i (omega arith))) l)
+    node-in l n L a = can (eased-within eq pos (a .sound) (a .within) (a .going) tops on load (branch k a) (e (kids n (suc i) i) (a .going .chains i (omega arith))) l)

@@ -1,6 +1,6 @@
 -- The wires under a point as a chain in a table of links: from the point to its lowest wire, from each wire to the next one up in number, and then to a number that
 -- no wire has. A node's own link serves both: until the node has its load it leads to the node's wires, and then to the next wire beside its own.
-use Prim.Native.Nat.{ℕ, zero, suc, _+_, _-_, _≤_, _<_}
+use Prim.Native.Nat.{ℕ, _+_, _≤_, _<_}
 use mathlib.Core.Path.{_≡_}
 use mathlib.Core.List.{List, [], _∷_}
 use lib.ListN.{length, getD}

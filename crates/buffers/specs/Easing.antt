@@ -1,7 +1,7 @@
 -- An overfull node: its heaviest wires get a buffer on top, one after the other, until the load fits or none is heavier than the pin.
-use Prim.Native.Nat.{ℕ, zero, suc, _+_, _-_, _≤_, _<_}
+use Prim.Native.Nat.{ℕ, _+_, _≤_, _<_}
 use mathlib.Core.Path.{_≡_}
-use mathlib.Core.List.{List, [], _∷_}
+use mathlib.Core.List.{List}
 use lib.ListN.{length, getD}
 use Rattle.net.specs.Legal.{Each}
 use Rattle.frontier.specs.Cell.{Cell}

@@ -1,8 +1,8 @@
 -- The tables on the way up: which wires are joined to their parents, and which nodes have their load.
-use Prim.Native.Nat.{ℕ, zero, suc, _+_, _-_, _≤_, _<_}
+use Prim.Native.Nat.{ℕ, suc, _-_, _≤_, _<_}
 use mathlib.Core.Path.{_≡_}
 use mathlib.Core.Bool.{Bool, true, false}
-use mathlib.Core.List.{List, [], _∷_}
+use mathlib.Core.List.{List}
 use lib.ListN.{length, getD}
 use denote.Ref.{RefT, now}
 use Rattle.net.specs.Figures.{mostPlaces}

@@ -10,7 +10,7 @@ ghost use Rattle.net.specs.Net.{Net, netAt};
 ghost use Rattle.net.specs.Sound.{SoundNet};
 ghost use Rattle.states.specs.States.{modelOf, limitsOf, CellOk};
 ghost use Rattle.relief.specs.Pieces;
-ghost use Rattle.relief.specs.Pieces.{bare};
+ghost use Rattle.relief.specs.Pieces.{mostPiece, bare};
 ghost use Rattle.buffers.specs.Chain.{Chain, Chained, Heaviest};
 ghost use Rattle.buffers.specs.Easing.{Loaded, Eased};
 ghost use Rattle.buffers.specs.Going.{leadsIn, Led, tables, tablesAt, Going, Tried, AtNode, AtWire};
@@ -57,7 +57,7 @@ fn relieve(c: Cell, links: &[u16], tops: &mut [u32], on: &mut [u8], first: usize
 // The uppermost piece of a wire of size w over the load h, by the wire's lead: its size and what hangs below it. To what is above it a given buffer is a pin.
 fn piece(c: Cell, w: u64, lead: u64, h: u64) -> u64
     requires { ⌜ CellOk c × (w ≤ mostWire) × (h ≤ c .limit) × (lead ≤ suc w) ⌝ }
-    ensures { λ r. ⌜ (r ≡ Pieces.piece (modelOf c) w lead h) × (r ≤ 11000000) ⌝ }
+    ensures { λ r. ⌜ (r ≡ Pieces.piece (modelOf c) w lead h) × (r ≤ mostPiece) ⌝ }
 {
     if lead == 0 {
         return w + h;
@@ -104,8 +104,12 @@ fn ease_node(
         below[i] = x;
         return true;
     }
+    let sum = states::wide(below[i]);
+    if sum <= c.limit {
+        return true;
+    }
     let first = links[i] as usize;
-    let h = relieve(c, links, tops, on, first, states::wide(below[i]));
+    let h = relieve(c, links, tops, on, first, sum);
     if c.limit < h {
         return false;
     }

@@ -1,29 +1,21 @@
 -- Cleared tables are those of the way up before it begins; and what the given columns hold is within them.
-use Prim.Native.Nat.{ℕ, zero, suc, _+_, _-_, _≤_, _<_}
+use Prim.Native.Nat.{ℕ, zero, suc, _≤_, _<_}
 use mathlib.Core.Path.{_≡_, refl, sym, subst, ap, _∙_}
 use mathlib.Core.List.{List, [], _∷_}
 use lib.ListN.{length, getD, replicate, getD-replicate, length-replicate}
 use native.Mathlib.Omega.{arith}
-use native.Mathlib.Decide.{decLt}
 use Rattle.net.specs.declared.Entry.{Entry}
 use Rattle.net.specs.Figures.{mostPlaces}
 use Rattle.net.specs.Net.{Net, places, wire}
 use Rattle.net.specs.Load.{entries}
 use Rattle.net.specs.Legal.{InOrder, Stands, start, Each}
 use Rattle.net.specs.Sound.{SoundNet}
+use Rattle.load.proofs.Clear.{none-in}
 use Rattle.frontier.specs.Cell.{Cell}
 use Rattle.buffers.specs.Chain.{sumL, Chain}
-use Rattle.buffers.specs.Going.{tables, kids, Going}
+use Rattle.buffers.specs.Going.{tables, Going}
 use Rattle.buffers.proofs.Kids.{kids-end}
 use Rattle.finish.specs.Given.{Stood, Fresh}
-
-past-end : (l : List ℕ) (i : ℕ) → length l ≤ i → getD l i 0 ≡ 0
-past-end [] i h = refl
-past-end (x ∷ l) zero h = absurd (omega arith)
-past-end (x ∷ l) (suc i) h = past-end l i (omega arith)
-
-zero-at : (N i : ℕ) → _≡_ {A = ℕ} (getD (replicate N 0) i 0) 0
-zero-at N i = elim (decLt i N) [ yes h ↦ getD-replicate {A = ℕ} N i 0 0 h | no h ↦ past-end (replicate N 0) i (omega (arith, length-replicate {A = ℕ} N 0)) ]
 
 -- a link of N leads nowhere
 pub going-none : (N : ℕ) (τ : Cell) (n : Net) (L : ℕ → ℕ) → places n ≤ N → N ≤ mostPlaces → Going τ n L (tables (replicate N 0) (replicate N 0) (replicate N 0) (replicate N N)) (places n) (places n)
@@ -36,8 +28,8 @@ going-none N τ n L h few = record {
     links = omega (arith, length-replicate {A = ℕ} N 0, length-replicate {A = ℕ} N N);
   };
   chains = λ v l. subst (Chain (length (replicate N 0)) (replicate N N) (getD (replicate N N) v 0)) (sym (kids-end n v)) (omega (arith, getD-replicate {A = ℕ} N v N 0 (omega arith), length-replicate {A = ℕ} N 0));
-  sums = λ v l. ap (sumL (λ j. getD (replicate N 0) j 0)) (kids-end n v) ∙ sym (zero-at N v);
-  clear = λ j l. zero-at N j;
+  sums = λ v l. ap (sumL (λ j. getD (replicate N 0) j 0)) (kids-end n v) ∙ sym (none-in N v);
+  clear = λ j l. none-in N j;
   fresh = λ v l. subst (Each (λ j. getD (replicate N 0) j 0 ≡ 0)) (sym (kids-end n v)) tt;
   tops = λ j l g. absurd (omega arith);
   marked = record { fits = λ i l g. absurd (omega arith); sinks = λ i l g. absurd (omega arith); nodes = λ i l g. absurd (omega arith) };
@@ -50,12 +42,12 @@ stands-at n d (v ∷ ws) [] e o s h = absurd (omega arith)
 stands-at n d (v ∷ ws) (x ∷ os) zero o s h = o .1
 stands-at n d (v ∷ ws) (x ∷ os) (suc e) o s h = stands-at n (record { wire = v; offset = x }) ws os e (o .2) (omega arith) (omega arith)
 
-pub fresh : (n : Net) {ws os : List ℕ} → SoundNet n → Stood n ws os → Fresh ws os (replicate 1025 0)
+pub fresh : (n : Net) {ws os : List ℕ} → SoundNet n → Stood n ws os → Fresh ws os (replicate mostPlaces 0)
 fresh n {ws} {os} sound s = record {
   same = s .same;
   few = s .few;
-  long = omega (arith, length-replicate {A = ℕ} 1025 0);
-  wires = λ e h. let x = stands-at n start ws os e (s .order) (s .same) h in omega (arith, x .within, sound .few, length-replicate {A = ℕ} 1025 0);
+  long = omega (arith, length-replicate {A = ℕ} mostPlaces 0);
+  wires = λ e h. let x = stands-at n start ws os e (s .order) (s .same) h in omega (arith, x .within, sound .few, length-replicate {A = ℕ} mostPlaces 0);
   offsets = λ e h. let x = stands-at n start ws os e (s .order) (s .same) h in omega (arith, x .offset, sound .wire-most (getD ws e 0));
-  clear = zero-at 1025;
+  clear = none-in mostPlaces;
 }

@@ -1,7 +1,7 @@
 -- What the demands say of any answers that conform. Demand 2: over all legal placements that contain the given entries; with none given it is the solver's. Demand 3:
 -- on an eased net, with each given offset cut to the new wire, a completion still exists and no more entries are added, so the total is no larger.
-use Prim.Native.Nat.{ℕ, _+_, _≤_, _<_}
-use mathlib.Core.Path.{_≡_, sym, _∙_}
+use Prim.Native.Nat.{ℕ, _+_, _≤_}
+use mathlib.Core.Path.{_≡_}
 use mathlib.Core.List.{List, []}
 use native.Mathlib.Omega.{arith}
 use lib.ListN.{length}
@@ -9,9 +9,9 @@ use Rattle.net.specs.declared.Entry.{Entry}
 use Rattle.net.specs.declared.Refusal.the-variants.{NoLegalPlacement, NoRoom}
 use Rattle.net.specs.Net.{Net}
 use Rattle.net.specs.Legal.{InOrder, start, Legal, Least, NoneLegal}
-use Rattle.net.specs.Complete.{Completes, LeastAdded, NoneCompletes, Contains}
+use Rattle.net.specs.Complete.{LeastAdded, NoneCompletes, Contains}
 use Rattle.net.specs.Ease.{Eases, carried}
-use Rattle.net.proofs.Completing.{least-alone, none-alone, ease-completes, ease-least-added, added-in-order}
+use Rattle.net.proofs.Completing.{least-alone, none-alone, ease-completes, ease-least-added}
 use Rattle.net.proofs.Containing.{none-contains, least-contains}
 use Rattle.finish.specs.declared.Finished.{Finished}
 use Rattle.finish.specs.declared.Finished.the-variants.{Added, Refused}

@@ -1,6 +1,6 @@
 -- Two answers that conform agree in number, place and count, and in everything of the columns but the first places, up to the count: the least number to add is one
 -- number, and where there is one some entries complete the given ones.
-use Prim.Native.Nat.{ℕ, _≤_, _<_}
+use Prim.Native.Nat.{ℕ, _≤_}
 use mathlib.Core.Path.{_≡_, sym, ap, _∙_}
 use mathlib.Core.List.{List}
 use native.Mathlib.Omega.{arith}

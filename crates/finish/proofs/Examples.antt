@@ -1,6 +1,6 @@
 -- Half-buffered nets on both sides of each line, C_U 10 and C_b 2: the least number to add by marks that are right, and refusals in their order.
-use Prim.Native.Nat.{ℕ, zero, suc, _+_, _-_, _*_, _≤_, _<_}
-use mathlib.Core.Path.{_≡_, refl, subst}
+use Prim.Native.Nat.{ℕ, zero, suc, _≤_, _<_}
+use mathlib.Core.Path.{_≡_, refl}
 use mathlib.Core.List.{List, [], _∷_}
 use lib.ListN.{length, getD}
 use native.Mathlib.Omega.{arith}
@@ -8,7 +8,7 @@ use Rattle.net.specs.declared.Limits.{Limits}
 use Rattle.net.specs.declared.Entry.{Entry}
 use Rattle.net.specs.declared.Refusal.the-variants.{OutOfRange, WrongColumns, Misplaced}
 use Rattle.net.specs.declared.Judged.the-variants.{Sound, Refused}
-use Rattle.net.specs.Net.{Net, places, kind}
+use Rattle.net.specs.Net.{Net, kind}
 use Rattle.net.specs.Tree.{hanging, under}
 use Rattle.net.specs.Load.{offsetsOn, entries}
 use Rattle.net.specs.Legal.{higher, further, InOrder, start}

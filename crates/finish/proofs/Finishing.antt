@@ -1,11 +1,12 @@
 -- What the way up says comes to the answer: right marks are a least completion of the given entries, and a node that cannot be brought within the limit says that there is none.
-use Prim.Native.Nat.{ℕ, suc, _+_, _-_, _≤_, _<_}
+use Prim.Native.Nat.{ℕ, suc, _-_}
 use mathlib.Core.Path.{_≡_, refl, sym, subst, ap, _∙_}
 use mathlib.Core.List.{List}
 use lib.ListN.{length, getD}
 use native.Mathlib.Omega.{arith}
 use Rattle.net.specs.declared.Entry.{Entry}
 use Rattle.net.specs.declared.Refusal.the-variants.{NoLegalPlacement}
+use Rattle.net.specs.Figures.{mostPlaces}
 use Rattle.net.specs.Net.{Net, net, places, wire}
 use Rattle.net.specs.Load.{entries, offsetsOn}
 use Rattle.net.specs.Complete.{Completes, LeastAdded, NoneCompletes}
@@ -19,9 +20,8 @@ use Rattle.relief.proofs.Runs.{in-order-sorted}
 use Rattle.relief.proofs.Least.{completed, least-added, none-completes}
 use Rattle.states.specs.declared.Cell as code
 use Rattle.states.specs.States.{modelOf, limitsOf, CellOk}
-use Rattle.columns.specs.Columns.{Kept}
 use Rattle.buffers.specs.Going.{leadsIn, Led, marksOf, Lost, Tables, Going}
-use Rattle.adding.specs.Walks.{addedOn, allAdded, Ready}
+use Rattle.adding.specs.Walks.{allAdded, Ready}
 use Rattle.finish.specs.declared.Finished.{Finished}
 use Rattle.finish.specs.declared.Finished.the-variants.{Refused}
 use Rattle.finish.specs.Given.{Stood, Leads, Placed, short, fits}
@@ -41,7 +41,7 @@ module _ {c : code.Cell} {p w k pi po ws os leads : List ℕ} (ok : CellOk c) (s
   abbrev G : ℕ → List ℕ
   G = offsetsOn (entries ws os)
 
-  pub led-low : length leads ≡ 1025 → Led (net (limitsOf c) p w k pi po) leads
+  pub led-low : length leads ≡ mostPlaces → Led (net (limitsOf c) p w k pi po) leads
   led-low l = record { long = omega (arith, sound .few); low = λ i. lead-low (wire n i) (G i) (getD leads i 0) (led .is i) (in-order-rises n g (stood .order) i) }
 
   same-leads : leadsIn leads ≡ (λ i. leadOf (G i))

@@ -1,10 +1,9 @@
 -- What is judged before a net is finished, in its order.
-use Prim.Native.Nat.{ℕ, suc, _≤_, _<_}
-use mathlib.Core.Path.{_≡_, refl, sym, subst, ap, _∙_}
+use Prim.Native.Nat.{ℕ}
+use mathlib.Core.Path.{_≡_, refl, sym, subst}
 use mathlib.Core.List.{List}
 use lib.ListN.{length}
 use lib.Dec.{eqb, leb}
-use native.Mathlib.Omega.{arith}
 use borrow.Author.Tests.{eq-eqb, ne-eqb, eqb-true, leb-true}
 use Rattle.net.specs.declared.Limits.{Limits}
 use Rattle.net.specs.declared.Entry.{Entry}
@@ -12,7 +11,6 @@ use Rattle.net.specs.declared.Refusal.{Refusal}
 use Rattle.net.specs.declared.Refusal.the-variants.{OutOfRange, WrongColumns}
 use Rattle.net.specs.declared.Judged.{Judged}
 use Rattle.net.specs.declared.Judged.the-variants as judge
-use Rattle.net.specs.Choose.{both}
 use Rattle.net.specs.Figures.{mostEntries}
 use Rattle.net.specs.Net.{Net, net}
 use Rattle.net.specs.Load.{entries}

@@ -5,7 +5,7 @@ use mathlib.Core.List.{List}
 use lib.ListN.{length, getD}
 use Rattle.net.specs.declared.Entry.{Entry}
 use Rattle.net.specs.declared.Refusal.the-variants.{NoRoom}
-use Rattle.net.specs.Figures.{mostWire, mostEntries}
+use Rattle.net.specs.Figures.{mostWire, mostPlaces, mostEntries}
 use Rattle.net.specs.Net.{Net}
 use Rattle.net.specs.Load.{entries, offsetsOn}
 use Rattle.net.specs.Legal.{InOrder, start}
@@ -24,7 +24,7 @@ pub record Stood (n : Net) (ws os : List ℕ) : Type 0 where
 pub record Fresh (ws os leads : List ℕ) : Type 0 where
   pub same : length os ≡ length ws
   pub few : length ws ≤ mostEntries
-  pub long : length leads ≤ 1025
+  pub long : length leads ≤ mostPlaces
   pub wires : (e : ℕ) → e < length ws → getD ws e 0 < length leads
   pub offsets : (e : ℕ) → e < length ws → getD os e 0 ≤ mostWire
   pub clear : (i : ℕ) → getD leads i 0 ≡ 0

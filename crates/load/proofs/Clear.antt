@@ -5,7 +5,7 @@ use lib.ListN.{getD, replicate, length-replicate}
 use Rattle.net.specs.Figures.{mostPlaces}
 use Rattle.load.specs.Tables.{Clear}
 
-none-in : (k i : ℕ) → getD (replicate {A = ℕ} k 0) i 0 ≡ 0
+pub none-in : (k i : ℕ) → getD (replicate {A = ℕ} k 0) i 0 ≡ 0
 none-in zero i = refl
 none-in (suc k) zero = refl
 none-in (suc k) (suc i) = none-in k i

@@ -1,7 +1,7 @@
 -- Given and added entries: a whole has as many as both together, the added ones stand in order as it does, the least number to add is one number;
 -- with none given all of this is what is said of legal placements; and easing keeps it, demand 3 where each given offset is cut to the new wire.
-use Prim.Native.Nat.{ℕ, zero, suc, _+_, _≤_, _<_}
-use mathlib.Core.Path.{_≡_, refl, sym, subst, ap}
+use Prim.Native.Nat.{ℕ, _+_, _≤_}
+use mathlib.Core.Path.{_≡_, refl, subst, ap}
 use mathlib.Core.Logic.{_↔_}
 use mathlib.Core.List.{List, [], _∷_, _++_, map}
 use lib.ListN.{length}

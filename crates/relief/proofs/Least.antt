@@ -1,5 +1,5 @@
 -- Right marks are a least completion of the given entries, and a node that is stuck says that there is none.
-use Prim.Native.Nat.{ℕ, zero, suc, _+_, _-_, _*_, _%_, _≤_, _<_}
+use Prim.Native.Nat.{ℕ, zero, suc, _+_, _-_, _*_, _≤_, _<_}
 use mathlib.Core.Path.{_≡_, refl, subst, _∙_}
 use mathlib.Core.List.{List}
 use lib.ListN.{length}
@@ -25,7 +25,7 @@ use Rattle.relief.specs.Pieces.{leadOf}
 use Rattle.relief.specs.Marks.{Relieved, Marks, hands, wholeAt, addedAt, Marked, Stuck, pin-over, wires-over}
 use Rattle.relief.proofs.Pieces.{whole-joins}
 use Rattle.relief.proofs.Runs.{placed-own}
-use Rattle.relief.proofs.Lower.{later, node-lower, Under, under-lower}
+use Rattle.relief.proofs.Lower.{later, node-lower, under-lower}
 use Rattle.relief.proofs.Reach.{reached}
 
 -- ---- wire by wire

@@ -5,7 +5,7 @@ use mathlib.Core.List.{List}
 use lib.ListN.{length}
 use native.Mathlib.Nat.{mul-le-mul-left}
 use native.Mathlib.Omega.{arith}
-use Rattle.net.specs.Net.{Net, places, wire, kind, pin}
+use Rattle.net.specs.Net.{Net, wire}
 use Rattle.net.specs.Tree.{Hanging, none, sink, branch, under}
 use Rattle.net.specs.Sound.{SoundNet}
 use Rattle.net.specs.Complete.{Joins}

@@ -1,6 +1,6 @@
 -- One wire put together from its pieces: how many its offsets are, that they are good and what they hand up, and that they are the given and the added ones.
-use Prim.Native.Nat.{ℕ, zero, suc, _+_, _-_, _*_, _≤_, _<_}
-use mathlib.Core.Path.{_≡_, refl, subst, ap, _∙_}
+use Prim.Native.Nat.{ℕ, zero, suc, _+_, _-_, _*_, _≤_}
+use mathlib.Core.Path.{_≡_, refl, subst, _∙_}
 use mathlib.Core.List.{List, [], _∷_, _++_, append-nil}
 use lib.ListN.{length, length-append, replicate, length-replicate}
 use native.Mathlib.Nat.{le-trans}
@@ -13,7 +13,7 @@ use Rattle.frontier.specs.Cell.{Cell}
 use Rattle.frontier.specs.Plan.{GoodW, topW}
 use Rattle.frontier.specs.Frontier.{ceil, T}
 use Rattle.frontier.specs.Spaced.{spread}
-use Rattle.frontier.proofs.Lower.{topW-bound, ceil-ok, ceil-least}
+use Rattle.frontier.proofs.Lower.{topW-bound, ceil-ok}
 use Rattle.frontier.proofs.Attained.{spread-length, spread-good, spread-top, add-good}
 use Rattle.relief.specs.Pieces.{topmost, leadOf, piece, bare, topped, wholeFrom, addedFrom}
 

@@ -2,9 +2,14 @@
 use Prim.Native.Nat.{ℕ, zero, suc, _+_, _-_}
 use mathlib.Core.List.{List, [], _∷_, _++_}
 use lib.ListN.{replicate}
+use Rattle.net.specs.Figures.{mostLimit, mostWire}
 use Rattle.frontier.specs.Cell.{Cell}
 use Rattle.frontier.specs.Frontier.{ceil, T}
 use Rattle.frontier.specs.Spaced.{spread}
+
+-- the largest piece of a wire: all of it, over what a driver may see
+abbrev pub mostPiece : ℕ
+mostPiece = mostWire + mostLimit
 
 -- the topmost of the offsets o and os
 unfoldable pub topmost : ℕ → List ℕ → ℕ

@@ -1,18 +1,12 @@
 -- The loop keeps that what is counted and what the wires from i on add make the whole.
 use native.Mathlib.Omega.{arith}
-use Prim.Native.Nat.{ℕ, _-_}
+use Prim.Native.Nat.{_-_}
 use lib.ListN.{length}
-use borrow.Author.Needs.{needs}
 use Rattle.states.specs.States.{modelOf}
 use Rattle.adding.specs.Walks.{Ready}
 use Rattle.adding.proofs.Summing.{begins, Counting, counting-start, last-low, last-few, place-few, counting-next, counting-end}
 use Rattle.adding.proofs.count_all.Statement.{statement}
 use Rattle.adding.proofs.count_all.Tie as tie
-use Rattle.adding.proofs.count_all.Reads as reads
-use Rattle.adding.proofs.count_all.Lts as lts
-use Rattle.adding.proofs.count_given.Reads as count-given-reads
-use Rattle.adding.proofs.takes.Reads as takes-reads
-use Rattle.adding.proofs.wire_at.Reads as wire-at-reads
 
 abbrev Inv-loop : tie.InvT-loop
 Inv-loop c wire below on given offsets i₀ e₀ to₀ i e to = (r : Ready (modelOf c) wire below on given offsets) × Counting r i e to

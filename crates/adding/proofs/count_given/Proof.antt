@@ -8,10 +8,6 @@ use Rattle.states.specs.States.{modelOf}
 use Rattle.adding.proofs.Walking.{Walking, walking-start, next-piece, walking-more, passed-all, passed-other}
 use Rattle.adding.proofs.count_given.Statement.{statement}
 use Rattle.adding.proofs.count_given.Tie as tie
-use Rattle.adding.proofs.count_given.Reads as reads
-use Rattle.adding.proofs.count_given.Lts as lts
-use Rattle.adding.proofs.takes.Reads as takes-reads
-use Rattle.states.proofs.wide.Reads as wide-reads
 
 abbrev Inv-loop : tie.InvT-loop
 Inv-loop c x given offsets from to e₀ k₀ at₀ load₀ e k at load = (done : List ℕ) × Walking (modelOf c) given offsets from x to e k at load done

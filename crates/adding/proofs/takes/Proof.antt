@@ -5,9 +5,6 @@ use Rattle.adding.proofs.Walking.{ceil-few, takes-none}
 use borrow.Author.Needs.{needs}
 use Rattle.adding.proofs.takes.Statement.{statement}
 use Rattle.adding.proofs.takes.Tie as tie
-use Rattle.adding.proofs.takes.Reads as reads
-use Rattle.adding.proofs.takes.Lts as lts
-use Rattle.states.proofs.ceil.Reads as ceil-reads
 
 returns : tie.Need-returns
 returns c =

@@ -4,9 +4,6 @@ use mathlib.Core.Path.{refl}
 use borrow.Author.Needs.{needs}
 use Rattle.adding.proofs.wire_at.Statement.{statement}
 use Rattle.adding.proofs.wire_at.Tie as tie
-use Rattle.adding.proofs.wire_at.Reads as reads
-use Rattle.adding.proofs.wire_at.Lts as lts
-use Rattle.states.proofs.wide.Reads as wide-reads
 
 cast-number : tie.Need-cast-number
 cast-number c = search needs

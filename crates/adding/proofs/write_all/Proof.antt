@@ -1,6 +1,6 @@
 -- The loop keeps the list of what is written and what comes after it.
 use native.Mathlib.Omega.{arith}
-use Prim.Native.Nat.{ℕ, _-_}
+use Prim.Native.Nat.{_-_}
 use lib.ListN.{length}
 use Rattle.states.specs.States.{modelOf}
 use Rattle.columns.proofs.Listing.{wires-long, offsets-long}
@@ -8,10 +8,6 @@ use Rattle.adding.specs.Walks.{Ready}
 use Rattle.adding.proofs.Summing.{begins, Written, written-start, room, written-next, written-end}
 use Rattle.adding.proofs.write_all.Statement.{statement}
 use Rattle.adding.proofs.write_all.Tie as tie
-use Rattle.adding.proofs.write_all.Reads as reads
-use Rattle.adding.proofs.write_all.Lts as lts
-use Rattle.adding.proofs.wire_at.Reads as wire-at-reads
-use Rattle.adding.proofs.write_wire.Reads as write-wire-reads
 
 abbrev Inv-loop : tie.InvT-loop
 Inv-loop c wire below on given offsets wires₀ offs₀ i₀ e₀ to₀ wires offs i e to = (r : Ready (modelOf c) wire below on given offsets) × Written r wires₀ offs₀ i e to wires offs

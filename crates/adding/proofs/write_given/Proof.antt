@@ -9,10 +9,6 @@ use Rattle.adding.proofs.Walking.{next-piece}
 use Rattle.adding.proofs.Storing.{stores-long, Writing, writing-start, room-between, writing-more, wrote-all, wrote-other}
 use Rattle.adding.proofs.write_given.Statement.{statement}
 use Rattle.adding.proofs.write_given.Tie as tie
-use Rattle.adding.proofs.write_given.Reads as reads
-use Rattle.adding.proofs.write_given.Lts as lts
-use Rattle.adding.proofs.write_piece.Reads as write-piece-reads
-use Rattle.states.proofs.wide.Reads as wide-reads
 
 abbrev Inv-loop : tie.InvT-loop
 Inv-loop c x given offsets wires₀ offs₀ from to e₀ k₀ at₀ load₀ wires offs e k at load = (done : List ℕ) × Writing (modelOf c) given offsets from x to wires₀ offs₀ e k at load wires offs done

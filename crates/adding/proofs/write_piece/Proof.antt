@@ -6,11 +6,6 @@ use Rattle.adding.proofs.Storing.{none-stored, stored-room, piece-store
 use borrow.Author.Needs.{needs}
 use Rattle.adding.proofs.write_piece.Statement.{statement}
 use Rattle.adding.proofs.write_piece.Tie as tie
-use Rattle.adding.proofs.write_piece.Reads as reads
-use Rattle.adding.proofs.write_piece.Lts as lts
-use Rattle.adding.proofs.takes.Reads as takes-reads
-use Rattle.columns.proofs.write_spaced.Reads as write-spaced-reads
-use Rattle.states.proofs.least.Reads as least-reads
 
 sub-v : tie.Need-sub-v
 sub-v c = search needs

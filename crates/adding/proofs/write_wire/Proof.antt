@@ -6,11 +6,6 @@ use Rattle.adding.proofs.Storing.{stores-long, room-top, room-end, wrot
 use borrow.Author.Needs.{needs}
 use Rattle.adding.proofs.write_wire.Statement.{statement}
 use Rattle.adding.proofs.write_wire.Tie as tie
-use Rattle.adding.proofs.write_wire.Reads as reads
-use Rattle.adding.proofs.write_wire.Lts as lts
-use Rattle.adding.proofs.write_given.Reads as write-given-reads
-use Rattle.adding.proofs.write_piece.Reads as write-piece-reads
-use Rattle.columns.proofs.write_spaced.Reads as write-spaced-reads
 
 write-given-requires : tie.Need-write-given-requires
 write-given-requires c κs = search needs

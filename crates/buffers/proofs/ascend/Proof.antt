@@ -1,6 +1,6 @@
 -- The loop keeps that the wires from i on are joined and the nodes from i on have their load.
 use native.Mathlib.Omega.{arith}
-use Prim.Native.Nat.{ℕ, suc, _-_, _<_, _≤_}
+use Prim.Native.Nat.{suc, _-_}
 use mathlib.Core.Path.{_≡_, refl, _∙_}
 use Rattle.net.specs.Net.{net}
 use Rattle.states.specs.States.{modelOf, limitsOf}
@@ -8,10 +8,6 @@ use Rattle.buffers.specs.Going.{leadsIn, tables, cannot}
 use Rattle.buffers.proofs.Ascending.{Way, tried-true, tried-false}
 use Rattle.buffers.proofs.ascend.Statement.{statement}
 use Rattle.buffers.proofs.ascend.Tie as tie
-use Rattle.buffers.proofs.ascend.Reads as reads
-use Rattle.buffers.proofs.ascend.Lts as lts
-use Rattle.buffers.proofs.ease_node.Reads as ease-node-reads
-use Rattle.buffers.proofs.push_wire.Reads as push-wire-reads
 
 abbrev Inv-loop : tie.InvT-loop
 Inv-loop c parent wire kind pin polarity leads below₀ tops₀ on₀ links₀ i₀ below tops on links i =

@@ -4,12 +4,9 @@ use Prim.Native.Nat.{ℕ, _-_}
 use lib.ListN.{length, getD}
 use mathlib.Core.Path.{sym, subst}
 use mathlib.Core.Logic.{⊎-elim}
-use borrow.Author.Needs.{needs}
 use Rattle.buffers.proofs.Scanning.{Scan, scan-start, chain-on, scan-past, scan-take, scan-end}
 use Rattle.buffers.proofs.heaviest.Statement.{statement}
 use Rattle.buffers.proofs.heaviest.Tie as tie
-use Rattle.buffers.proofs.heaviest.Reads as reads
-use Rattle.buffers.proofs.heaviest.Lts as lts
 
 abbrev Inv-loop : tie.InvT-loop
 Inv-loop links tops first pin best₀ most₀ j₀ best most j = Scan links tops first pin best most j
@@ -17,31 +14,24 @@ Inv-loop links tops first pin best₀ most₀ j₀ best most j = Scan links tops
 abbrev μ-loop : tie.MeasureT-loop
 μ-loop links tops first pin best₀ most₀ j₀ best most j = length tops - j
 
--- src/lib.rt:18:5
 loop-holds : tie.Need-loop-holds Inv-loop μ-loop
 loop-holds c = scan-start _ _ _ _
 
--- src/lib.rt:19:17
 mul-t : tie.Need-mul-t Inv-loop μ-loop
 mul-t c = omega arith
 
--- src/lib.rt:19:17
 shared-slice-read-t : tie.Need-shared-slice-read-t Inv-loop μ-loop
 shared-slice-read-t c = omega arith
 
--- src/lib.rt:24:13
 mul-j : tie.Need-mul-j Inv-loop μ-loop
 mul-j c = omega arith
 
--- src/lib.rt:24:13
 shared-slice-read-j : tie.Need-shared-slice-read-j Inv-loop μ-loop
 shared-slice-read-j c = omega arith
 
--- src/lib.rt:24:13
 cast-j : tie.Need-cast-j Inv-loop μ-loop
 cast-j c = omega (arith, c .shared-slice-known2 .given (c .before .before .before .before .loop .j))
 
--- src/lib.rt:18:5
 loop-less : tie.Need-loop-less Inv-loop μ-loop
 loop-less c =
     let a = c .before .before .before .before .before .args in
@@ -49,7 +39,6 @@ loop-less c =
     let s = c .before .before .before .before .loop .inv .part (p .js) (p .chain) in
     omega (arith, chain-on (a .links .now) (length (a .tops .now)) (c .before .before .before .before .loop .j) (s .rest) (s .chain) (c .before .before .before .loop-test .taken))
 
--- src/lib.rt:18:5
 loop-again : tie.Need-loop-again Inv-loop μ-loop
 loop-again c =
     let a = c .before .before .before .before .before .args in
@@ -62,7 +51,6 @@ loop-again c =
     (λ w. subst (λ (x : ℕ). scan x (c .before .if1 .most)) (sym (w .1)) (subst (scan (l .best)) (sym (w .2)) (scan-past (l .inv) t (w .0 .left))))
     (c .before .if1 .came)
 
--- src/lib.rt:11:1
 returns : tie.Need-returns Inv-loop μ-loop
 returns c = scan-end (c .before .loop .inv) (omega arith)
 

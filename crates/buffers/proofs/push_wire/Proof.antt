@@ -1,6 +1,5 @@
 -- The wire hands up what the model says, and the tables after it are those of a wire that is joined.
 use native.Mathlib.Omega.{arith}
-use Prim.Native.Nat.{ℕ}
 use mathlib.Core.Path.{_≡_, refl}
 use lib.ListN.{getD, length-set}
 use borrow.Author.Needs.{needs}

@@ -1,12 +1,11 @@
 -- The loop keeps that the heaviest are topped and that one fewer would be too few.
 use native.Mathlib.Omega.{arith}
-use Prim.Native.Nat.{ℕ, _-_, _<_}
-use mathlib.Core.Path.{_≡_, _∙_, sym, subst, ap}
-use mathlib.Core.List.{List}
-use lib.ListN.{length, getD, set}
+use Prim.Native.Nat.{ℕ, _-_}
+use mathlib.Core.Path.{sym, subst}
+use lib.ListN.{set}
 use borrow.Author.Needs.{needs}
 use Rattle.states.specs.States.{modelOf}
-use Rattle.buffers.proofs.Relieving.{Progress, progress-start, progress-chained, Picked, picked, progress-more, progress-fits, progress-stuck}
+use Rattle.buffers.proofs.Relieving.{Progress, progress-start, progress-chained, picked, progress-more, progress-fits, progress-stuck}
 use Rattle.buffers.proofs.relieve.Statement.{statement}
 use Rattle.buffers.proofs.relieve.Tie as tie
 

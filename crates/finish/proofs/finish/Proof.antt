@@ -10,11 +10,6 @@ use Rattle.finish.proofs.Judging.{half-sound, refused, answered}
 use borrow.Author.Needs.{needs}
 use Rattle.finish.proofs.finish.Statement.{statement}
 use Rattle.finish.proofs.finish.Tie as tie
-use Rattle.finish.proofs.finish.Reads as reads
-use Rattle.finish.proofs.finish.Lts as lts
-use Rattle.finish.proofs.finish_sound.Reads as finish-sound-reads
-use Rattle.finish.proofs.judge_half.Reads as judge-half-reads
-use Rattle.states.proofs.cell_from.Reads as cell-from-reads
 
 judge-half-requires : tie.Need-judge-half-requires
 judge-half-requires c κs = search needs

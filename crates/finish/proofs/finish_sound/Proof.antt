@@ -1,5 +1,6 @@
 -- The tables begin cleared; what the way up says of every node decides the answer.
 use native.Mathlib.Omega.{arith}
+use Rattle.net.specs.Figures.{mostPlaces}
 use Rattle.net.specs.Net.{net}
 use Rattle.states.specs.States.{modelOf, limitsOf}
 use Rattle.buffers.specs.Going.{leadsIn}
@@ -9,11 +10,6 @@ use Rattle.finish.proofs.Finishing.{led-low, lost-none, ready, placed-a
 use borrow.Author.Needs.{needs}
 use Rattle.finish.proofs.finish_sound.Statement.{statement}
 use Rattle.finish.proofs.finish_sound.Tie as tie
-use Rattle.finish.proofs.finish_sound.Reads as reads
-use Rattle.finish.proofs.finish_sound.Lts as lts
-use Rattle.buffers.proofs.ascend.Reads as ascend-reads
-use Rattle.finish.proofs.mark_leads.Reads as mark-leads-reads
-use Rattle.finish.proofs.place.Reads as place-reads
 
 slice-aggregate-mark-leads : tie.Need-slice-aggregate-mark-leads
 slice-aggregate-mark-leads c = search needs
@@ -48,7 +44,7 @@ ascend-requires c κs =
     let n = net (limitsOf (a .c)) (a .parent .now) (a .wire .now) (a .kind .now) (a .pin .now) (a .polarity .now) in
     let (ok, sound, buffers, stood) = s .pre in
     let leads = c .before .before .before .before .before .before .mark-leads .last .1 .1 .0 in
-    (ok, sound, led-low ok sound buffers stood (c .before .before .before .before .before .before .mark-leads .ensures) (c .before .before .before .before .before .before .mark-leads .kept .1 .1 .0), going-none 1025 (modelOf (a .c)) n (leadsIn leads) (sound .few) (omega arith))
+    (ok, sound, led-low ok sound buffers stood (c .before .before .before .before .before .before .mark-leads .ensures) (c .before .before .before .before .before .before .mark-leads .kept .1 .1 .0), going-none mostPlaces (modelOf (a .c)) n (leadsIn leads) (sound .few) (omega arith))
 
 returns : tie.Need-returns
 returns c =

@@ -7,10 +7,6 @@ use Rattle.finish.proofs.Judging.{half-own, half-type, half-rest}
 use borrow.Author.Needs.{needs}
 use Rattle.finish.proofs.judge_half.Statement.{statement}
 use Rattle.finish.proofs.judge_half.Tie as tie
-use Rattle.finish.proofs.judge_half.Reads as reads
-use Rattle.finish.proofs.judge_half.Lts as lts
-use Rattle.checker.proofs.entries_stand.Reads as entries-stand-reads
-use Rattle.net.proofs.judge.Reads as judge-reads
 
 judge-requires : tie.Need-judge-requires
 judge-requires c κs = search needs

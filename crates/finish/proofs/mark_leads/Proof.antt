@@ -5,8 +5,6 @@ use lib.ListN.{length}
 use Rattle.finish.proofs.Leading.{Leading, leading-start, leading-more, leading-end}
 use Rattle.finish.proofs.mark_leads.Statement.{statement}
 use Rattle.finish.proofs.mark_leads.Tie as tie
-use Rattle.finish.proofs.mark_leads.Reads as reads
-use Rattle.finish.proofs.mark_leads.Lts as lts
 
 abbrev Inv-loop : tie.InvT-loop
 Inv-loop given offsets leads₀ e₀ leads e = Leading given offsets leads₀ leads e

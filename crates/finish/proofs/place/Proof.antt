@@ -8,11 +8,6 @@ use Rattle.finish.specs.Given.{short, fits}
 use borrow.Author.Needs.{needs}
 use Rattle.finish.proofs.place.Statement.{statement}
 use Rattle.finish.proofs.place.Tie as tie
-use Rattle.finish.proofs.place.Reads as reads
-use Rattle.finish.proofs.place.Lts as lts
-use Rattle.adding.proofs.count_all.Reads as count-all-reads
-use Rattle.adding.proofs.write_all.Reads as write-all-reads
-use Rattle.columns.proofs.room.Reads as room-reads
 
 count-all-requires : tie.Need-count-all-requires
 count-all-requires c κs = search needs
