@@ -1,4 +1,4 @@
--- What the call answers that finishes a half-buffered net, over the definitions of crate `net` alone. Document 02, Item 4.
+-- What the call answers that finishes a half-buffered net. Document 02, Item 4.
 use Prim.Native.Nat.{ℕ, _≤_, _<_}
 use mathlib.Core.Path.{_≡_}
 use mathlib.Core.List.{List}
