@@ -109,7 +109,7 @@ def refused_cases():
     yield "inverters, out of order", line(6, 4, INVERTERS), given((1, 3), (1, 2)), (3, 0)
 
 
-# The loads of all m + 1 stages add up to the wires, the pins and m times C_b. With C_U 1, C_b 0 and
+# Summed over every driver, m entries and the source, the loads are wires, pins and m times C_b. With C_U 1, C_b 0 and
 # pin 0 that is the wire alone, so m + 1 is at least its size; an entry at each whole place between
 # its ends reaches that, and the given entry is one of them: size - 2 are added.
 def room_cases():

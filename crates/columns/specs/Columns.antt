@@ -7,14 +7,14 @@ use lib.Seq.{sets}
 use Rattle.net.specs.declared.Entry.{Entry}
 use Rattle.net.specs.Figures.{mostEntries}
 
--- Document 01: "A placement in memory is two columns, wire and offset."
+-- a placement in memory: its wires and its offsets
 abbrev pub wireColumn : List Entry → List ℕ
 wireColumn p = map (λ e. e .wire) p
 
 abbrev pub offsetColumn : List Entry → List ℕ
 offsetColumn p = map (λ e. e .offset) p
 
--- "Columns lent to be filled may differ in length; the shortest is the room", and "lent room, or 4,096 entries"
+-- the room: as much as the shorter of the two holds, and never more than 4,096 entries
 abbrev pub roomIn : List ℕ → List ℕ → ℕ
 roomIn ws os = min (min (length ws) (length os)) mostEntries
 

@@ -17,7 +17,7 @@ use Rattle.columns.specs.Columns.{roomIn, Kept, Holds}
 use Rattle.finish.specs.declared.Finished.{Finished}
 use Rattle.finish.specs.declared.Finished.the-variants.{Added, Refused}
 
--- "after the net's own, type 1 gets 3 at place 0; then the placement's 7 and 10"
+-- what is refused before anything is searched: the net, then its type where that is not 0, then the given entries' columns, then an entry that does not stand
 unfoldable pub halfJudged : Net → List ℕ → List ℕ → Judged
 halfJudged n ws os = thenJudge (judged n) (thenJudge (unless (eqb (n .limits .repeater) 0) (OutOfRange 0)) (stood n ws os))
 

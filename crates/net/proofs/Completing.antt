@@ -1,5 +1,5 @@
 -- Given and added entries: a whole has as many as both together, the added ones stand in order as it does, the least number to add is one number;
--- with none given all of this is what is said of legal placements; and easing keeps it, demand 3 where each given offset is cut to the new wire.
+-- with none given all of this is what is said of legal placements; and easing keeps it (demand 3), the given entries cut as the carry cuts.
 use Prim.Native.Nat.{ℕ, _+_, _≤_}
 use mathlib.Core.Path.{_≡_, refl, subst, ap}
 use mathlib.Core.Logic.{_↔_}
@@ -77,7 +77,7 @@ least-alone = (
 pub none-alone : {n : Net} → NoneCompletes n [] ↔ NoneLegal n
 none-alone = (λ h p l. h p (legal-alone .1 l), λ h a c. h a (legal-alone .0 c))
 
--- ---- demand 3, "where each given offset is cut to the new wire"
+-- ---- demand 3, the given entries cut as the carry cuts
 module _ {n m : Net} (ease : Eases n m) where
   pub ease-completes : {g a : List Entry} → Completes n g a → Completes m (carried m g) (carried m a)
   ease-completes c = record { whole = carried m (c .whole); joins = joins-map (cut m) (c .joins); legal = ease-keeps-legal ease (c .whole) (c .legal) }

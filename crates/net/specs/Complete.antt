@@ -1,4 +1,4 @@
--- Document 02, Item 4: "keep every given entry and add the fewest that make the whole legal."
+-- A half-buffered net (document 02, Item 4): some entries are given, others are added to them, and all together are to be legal.
 use Prim.Native.Nat.{ℕ, _+_, _≤_}
 use mathlib.Core.Path.{_≡_}
 use mathlib.Core.Bool.{Bool}
@@ -29,11 +29,11 @@ pub record LeastAdded (n : Net) (g : List Entry) (k : ℕ) : Type 0 where
   pub count : length entries ≡ k
   pub fewest : (a : List Entry) → Completes n g a → k ≤ length a
 
--- "no legal placement contains all the given entries"
+-- whatever is added, the given ones do not become legal
 abbrev pub NoneCompletes : Net → List Entry → Type 0
 NoneCompletes n g = (a : List Entry) → Completes n g a → ⊥
 
--- the other reading of "contains": "equal entries counted as often as they are given"
+-- the other reading of "contains": each entry at least as often as it is given
 abbrev pub sameEntry : Entry → Entry → Bool
 sameEntry d e = both (eqb (d .wire) (e .wire)) (eqb (d .offset) (e .offset))
 
