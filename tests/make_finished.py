@@ -109,9 +109,9 @@ def refused_cases():
     yield "inverters, out of order", line(6, 4, INVERTERS), given((1, 3), (1, 2)), (3, 0)
 
 
-# Summed over every driver, m entries and the source, the loads are wires, pins and m times C_b. With C_U 1, C_b 0 and
-# pin 0 that is the wire alone, so m + 1 is at least its size; an entry at each whole place between
-# its ends reaches that, and the given entry is one of them: size - 2 are added.
+# Summed over every driver, m entries and the source, the loads are wires, pins and m times C_b.
+# With C_U 1, C_b 0 and pin 0 that is the wire alone, so m + 1 is at least its size; an entry at each
+# whole place between its ends reaches that, and the given entry is one of them: size - 2 are added.
 def room_cases():
     yield "as many as there is room", line(4098, 0, ONE_UNIT), given((1, 1)), 4096
     yield "one more than there is room", line(4099, 0, ONE_UNIT), given((1, 1)), (9, 4097)
