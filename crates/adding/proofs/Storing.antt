@@ -5,8 +5,8 @@ use mathlib.Core.List.{List, [], _∷_, _++_}
 use lib.ListN.{length, getD, replicate, length-append, length-replicate}
 use lib.Seq.{sets, length-sets}
 use native.Mathlib.Omega.{arith}
-use Rattle.net.specs.Load.{offsetsOn}
-use Rattle.net.specs.Figures.{mostLimit}
+use Rattle.rules.specs.Load.{offsetsOn}
+use Rattle.rules.specs.Figures.{mostLimit}
 use Rattle.frontier.specs.Cell.{Cell}
 use Rattle.frontier.specs.Frontier.{ceil}
 use Rattle.frontier.specs.Spaced.{spread, steps}

@@ -4,9 +4,9 @@ use mathlib.Core.Path.{_≡_, refl, sym, subst, ap, _∙_}
 use mathlib.Core.List.{List}
 use lib.ListN.{length, length-append}
 use native.Mathlib.Omega.{arith}
-use Rattle.net.specs.declared.Entry.{Entry}
-use Rattle.net.specs.Load.{entries, offsetsOn}
-use Rattle.net.specs.Figures.{mostLimit}
+use Rattle.rules.specs.declared.Entry.{Entry}
+use Rattle.rules.specs.Load.{entries, offsetsOn}
+use Rattle.rules.specs.Figures.{mostLimit}
 use Rattle.frontier.specs.Cell.{Cell}
 use Rattle.frontier.specs.Frontier.{ceil}
 use Rattle.frontier.specs.Placed.{onWire, onWires}

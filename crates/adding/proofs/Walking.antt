@@ -6,10 +6,10 @@ use lib.ListN.{length, getD, drop, length-append}
 use lib.Seq.{drop-cons}
 use native.Mathlib.Omega.{arith}
 use native.Mathlib.Nat.{mul-le-mul-left}
-use Rattle.net.specs.declared.Entry.{Entry}
-use Rattle.net.specs.Load.{entries, offsetsOn}
-use Rattle.net.proofs.Order.{Rising}
-use Rattle.net.specs.Figures.{mostLimit}
+use Rattle.rules.specs.declared.Entry.{Entry}
+use Rattle.rules.specs.Load.{entries, offsetsOn}
+use Rattle.rules.proofs.Order.{Rising}
+use Rattle.rules.specs.Figures.{mostLimit}
 use Rattle.frontier.specs.Cell.{Cell}
 use Rattle.frontier.specs.Frontier.{ceil}
 use Rattle.frontier.specs.Spaced.{spread}

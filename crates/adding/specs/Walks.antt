@@ -4,10 +4,10 @@ use mathlib.Core.Path.{_≡_}
 use mathlib.Core.List.{List, [], _++_}
 use lib.ListN.{length, getD, replicate}
 use lib.Seq.{sets}
-use Rattle.net.specs.declared.Entry.{Entry}
-use Rattle.net.specs.Figures.{mostWire, mostPlaces, mostEntries}
-use Rattle.net.specs.Load.{entries, offsetsOn}
-use Rattle.net.proofs.Order.{Rising}
+use Rattle.rules.specs.declared.Entry.{Entry}
+use Rattle.rules.specs.Figures.{mostWire, mostPlaces, mostEntries}
+use Rattle.rules.specs.Load.{entries, offsetsOn}
+use Rattle.rules.proofs.Order.{Rising}
 use Rattle.frontier.specs.Cell.{Cell}
 use Rattle.frontier.specs.Placed.{onWires}
 use Rattle.relief.specs.Pieces.{mostPiece, addedFrom}

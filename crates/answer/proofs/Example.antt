@@ -3,7 +3,7 @@ use mathlib.Core.Path.{_≡_, refl}
 use mathlib.Core.List.{List, [], _∷_}
 use Prim.Native.Nat.{ℕ}
 use Rattle.answer.specs.Text.{higher, digits, said, leastLine, entryLine, sourceLine, entryLines, answerText, refusedLine}
-use Rattle.net.specs.declared.Refusal.the-variants.{FileEnds}
+use Rattle.rules.specs.declared.Refusal.the-variants.{FileEnds}
 
 -- "least 1", "wire 1 offset 6 drives 10", "source drives 10", each with its end
 example : answerText (1 ∷ []) (6 ∷ []) (10 ∷ []) 10 ≡

@@ -4,8 +4,8 @@ use mathlib.Core.Path.{_≡_}
 use mathlib.Core.List.{List, [], _∷_, _++_}
 use lib.ListN.{length, replicate}
 use lib.Seq.{sets}
-use Rattle.net.specs.declared.Refusal.{Refusal}
-use Rattle.net.specs.Refusal.{numberOf, placeOf}
+use Rattle.rules.specs.declared.Refusal.{Refusal}
+use Rattle.rules.specs.Refusal.{numberOf, placeOf}
 use Rattle.answer.specs.declared.Line.{Line}
 
 -- the decimal digits of q, none where it is 0; it has at most k

@@ -3,7 +3,7 @@ ghost use mathlib.Core.Path.{_≡_};
 ghost use Prim.Native.Nat.{_+_, _*_, _≤_};
 ghost use lib.ListN.{length, take};
 ghost use Rattle.answer.specs.Text.{Laid, digits, said, leastLine, entryLine, sourceLine, refusedLine, IsLine, entryLines, answerText};
-use net::Refusal;
+use rules::Refusal;
 
 // A line of text: the first `bytes` places of `text`, the last of them the line's end. The other places hold 0.
 pub struct Line {

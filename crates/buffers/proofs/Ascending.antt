@@ -3,7 +3,7 @@ use Prim.Native.Nat.{ℕ, _≤_}
 use mathlib.Core.Path.{_≡_, refl, sym, ap, _∙_}
 use lib.ListN.{length}
 use native.Mathlib.Omega.{arith}
-use Rattle.net.specs.Net.{Net, places}
+use Rattle.rules.specs.Net.{Net, places}
 use Rattle.frontier.specs.Cell.{Cell}
 use mathlib.Core.Bool.{Bool, true, false, not}
 use Rattle.buffers.specs.Going.{Tables, Going, Lost, Tried, can, cannot}

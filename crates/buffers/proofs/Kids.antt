@@ -6,10 +6,10 @@ use lib.ListN.{length}
 use native.Mathlib.Omega.{arith}
 use native.Mathlib.Decide.{ℕ-discrete}
 use borrow.Author.Tests.{eq-eqb, ne-eqb}
-use Rattle.net.specs.Net.{Net, places, parent, kind}
-use Rattle.net.specs.Tree.{Hanging, none, sink, branch, hung, hanging}
-use Rattle.net.specs.Legal.{Each}
-use Rattle.net.proofs.Hanging.{hanging-skip, hanging-take, hanging-end}
+use Rattle.rules.specs.Net.{Net, places, parent, kind}
+use Rattle.rules.specs.Tree.{Hanging, none, sink, branch, hung, hanging}
+use Rattle.rules.specs.Legal.{Each}
+use Rattle.rules.proofs.Hanging.{hanging-skip, hanging-take, hanging-end}
 use Rattle.frontier.specs.Cell.{Cell}
 use Rattle.frontier.specs.Cert.{sum}
 use Rattle.relief.specs.Pieces.{topped}

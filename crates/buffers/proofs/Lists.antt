@@ -4,7 +4,7 @@ use mathlib.Core.Path.{_≡_, refl, subst}
 use mathlib.Core.List.{List, [], _∷_}
 use lib.ListN.{length, getD}
 use native.Mathlib.Omega.{arith}
-use Rattle.net.specs.Legal.{Each}
+use Rattle.rules.specs.Legal.{Each}
 use Rattle.buffers.specs.Chain.{Chain, Among, here, there, sumL}
 
 pub each-map : (P Q : ℕ → Type 0) (js : List ℕ) → ((j : ℕ) → Among j js → P j → Q j) → Each P js → Each Q js

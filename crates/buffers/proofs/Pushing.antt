@@ -6,11 +6,11 @@ use lib.ListN.{length, getD, set, length-set}
 use lib.Seq.{getD-set-same, getD-set-other}
 use native.Mathlib.Omega.{arith}
 use native.Mathlib.Decide.{ℕ-discrete}
-use Rattle.net.specs.Figures.{mostWire, mostLimit, mostPlaces}
-use Rattle.net.specs.Net.{Net, places, parent, wire}
-use Rattle.net.specs.Tree.{under}
-use Rattle.net.specs.Legal.{Each}
-use Rattle.net.specs.Sound.{SoundNet}
+use Rattle.rules.specs.Figures.{mostWire, mostLimit, mostPlaces}
+use Rattle.rules.specs.Net.{Net, places, parent, wire}
+use Rattle.rules.specs.Tree.{under}
+use Rattle.rules.specs.Legal.{Each}
+use Rattle.rules.specs.Sound.{SoundNet}
 use Rattle.frontier.specs.Cell.{Cell}
 use Rattle.relief.specs.Pieces.{bare, topped}
 use Rattle.relief.specs.Marks.{Relieved, hands, out}

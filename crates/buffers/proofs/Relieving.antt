@@ -6,9 +6,9 @@ use lib.ListN.{length, getD, set, length-set}
 use lib.Seq.{getD-set-same, getD-set-other}
 use native.Mathlib.Omega.{arith}
 use native.Mathlib.Decide.{ℕ-discrete}
-use Rattle.net.specs.Legal.{Each}
+use Rattle.rules.specs.Legal.{Each}
 use Rattle.frontier.specs.Cell.{Cell}
-use Rattle.net.specs.Figures.{mostPlaces}
+use Rattle.rules.specs.Figures.{mostPlaces}
 use Rattle.relief.specs.Pieces.{topped}
 use Rattle.relief.specs.Marks.{Divides, light, heavy}
 use Rattle.buffers.specs.Chain.{Chain, Among, sumL, Chained, Heaviest, no-more, is-at}

@@ -4,7 +4,7 @@ use mathlib.Core.Path.{_≡_, refl, sym, subst}
 use mathlib.Core.List.{List, [], _∷_}
 use lib.ListN.{length, getD}
 use native.Mathlib.Omega.{arith}
-use Rattle.net.specs.Legal.{Each}
+use Rattle.rules.specs.Legal.{Each}
 use Rattle.buffers.specs.Chain.{Chain, Among, here, there, Heaviest, no-more, is-at}
 
 pub data Found (tops : List ℕ) (pin : ℕ) (js : List ℕ) (best most : ℕ) : Type 0 where

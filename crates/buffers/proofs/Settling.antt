@@ -6,11 +6,11 @@ use lib.ListN.{length, getD, set, length-set}
 use lib.Seq.{getD-set-same, getD-set-other, set-getD}
 use native.Mathlib.Omega.{arith}
 use native.Mathlib.Decide.{ℕ-discrete}
-use Rattle.net.specs.Figures.{mostPlaces}
-use Rattle.net.specs.Net.{Net, places, parent, wire, kind, pin}
-use Rattle.net.specs.Tree.{under}
-use Rattle.net.specs.Legal.{Each}
-use Rattle.net.specs.Sound.{SoundNet}
+use Rattle.rules.specs.Figures.{mostPlaces}
+use Rattle.rules.specs.Net.{Net, places, parent, wire, kind, pin}
+use Rattle.rules.specs.Tree.{under}
+use Rattle.rules.specs.Legal.{Each}
+use Rattle.rules.specs.Sound.{SoundNet}
 use Rattle.frontier.specs.Cell.{Cell}
 use Rattle.frontier.specs.Cert.{sum}
 use Rattle.relief.specs.Pieces.{piece, bare, topped}

@@ -4,9 +4,9 @@ use Prim.Native.Nat.{ℕ, _+_, _≤_, _<_}
 use mathlib.Core.Path.{_≡_}
 use mathlib.Core.List.{List, [], _∷_}
 use lib.ListN.{length, getD}
-use Rattle.net.specs.Figures.{mostPlaces}
-use Rattle.net.specs.Tree.{Hanging, none, sink, branch}
-use Rattle.net.specs.Legal.{Each}
+use Rattle.rules.specs.Figures.{mostPlaces}
+use Rattle.rules.specs.Tree.{Hanging, none, sink, branch}
+use Rattle.rules.specs.Legal.{Each}
 
 -- the wires under one point, in rising order
 abbrev pub wiresOf : Hanging → List ℕ

@@ -3,7 +3,7 @@ use Prim.Native.Nat.{ℕ, _+_, _≤_, _<_}
 use mathlib.Core.Path.{_≡_}
 use mathlib.Core.List.{List}
 use lib.ListN.{length, getD}
-use Rattle.net.specs.Legal.{Each}
+use Rattle.rules.specs.Legal.{Each}
 use Rattle.frontier.specs.Cell.{Cell}
 use Rattle.relief.specs.Pieces.{topped}
 use Rattle.relief.specs.Marks.{Divides}

@@ -5,11 +5,11 @@ use mathlib.Core.Bool.{Bool, true, false}
 use mathlib.Core.List.{List}
 use lib.ListN.{length, getD}
 use denote.Ref.{RefT, now}
-use Rattle.net.specs.Figures.{mostPlaces}
-use Rattle.net.specs.Net.{Net, places, wire}
-use Rattle.net.specs.Tree.{hanging}
-use Rattle.net.specs.Legal.{Each}
-use Rattle.net.specs.Sound.{SoundNet}
+use Rattle.rules.specs.Figures.{mostPlaces}
+use Rattle.rules.specs.Net.{Net, places, wire}
+use Rattle.rules.specs.Tree.{hanging}
+use Rattle.rules.specs.Legal.{Each}
+use Rattle.rules.specs.Sound.{SoundNet}
 use Rattle.frontier.specs.Cell.{Cell}
 use Rattle.relief.specs.Marks.{Marks, out, Marked, Stuck}
 use Rattle.buffers.specs.Chain.{wiresOf, sumL, Chain}

@@ -5,16 +5,16 @@ use mathlib.Core.List.{List}
 use native.Mathlib.Omega.{arith}
 use lib.ListN.{length}
 use borrow.Author.Tests.{eq-eqb, le-leb}
-use Rattle.net.specs.declared.Judged.{Judged}
-use Rattle.net.specs.declared.Judged.the-variants.{Sound, Refused}
-use Rattle.net.specs.Figures.{mostEntries}
-use Rattle.net.specs.Net.{Net}
-use Rattle.net.specs.Load.{entries}
-use Rattle.net.specs.Judge.{thenJudge, judged}
-use Rattle.net.specs.Checked.{checked}
-use Rattle.net.specs.Ease.{carried, easeJudged}
-use Rattle.net.proofs.Tests.{both-true, then-met}
-use Rattle.net.proofs.EaseKeepsLegal.{ease-keeps-legal}
+use Rattle.rules.specs.declared.Judged.{Judged}
+use Rattle.rules.specs.declared.Judged.the-variants.{Sound, Refused}
+use Rattle.rules.specs.Figures.{mostEntries}
+use Rattle.rules.specs.Net.{Net}
+use Rattle.rules.specs.Load.{entries}
+use Rattle.rules.specs.Judge.{thenJudge, judged}
+use Rattle.rules.specs.Checked.{checked}
+use Rattle.rules.specs.Ease.{carried, easeJudged}
+use Rattle.rules.proofs.Tests.{both-true, then-met}
+use Rattle.rules.proofs.EaseKeepsLegal.{ease-keeps-legal}
 use Rattle.checker.specs.Verdict.{LegalColumns}
 use Rattle.checker.proofs.CheckedIsLegal.{checked-is-legal}
 use Rattle.checker.proofs.VerdictSays.{columns-even, columns-few}

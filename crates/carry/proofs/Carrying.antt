@@ -4,17 +4,17 @@ use mathlib.Core.Path.{_≡_, refl, sym, ap, _∙_}
 use mathlib.Core.List.{List}
 use native.Mathlib.Omega.{arith}
 use lib.ListN.{length}
-use Rattle.net.specs.declared.Judged.{Judged}
-use Rattle.net.specs.declared.Judged.the-variants.{Sound, Refused}
-use Rattle.net.specs.declared.Refusal.{Refusal}
-use Rattle.net.specs.Net.{Net, places}
-use Rattle.net.specs.Load.{entries, offsetsOn, sourceDrives}
-use Rattle.net.specs.Judge.{judged}
-use Rattle.net.specs.Sound.{SoundNet}
+use Rattle.rules.specs.declared.Judged.{Judged}
+use Rattle.rules.specs.declared.Judged.the-variants.{Sound, Refused}
+use Rattle.rules.specs.declared.Refusal.{Refusal}
+use Rattle.rules.specs.Net.{Net, places}
+use Rattle.rules.specs.Load.{entries, offsetsOn, sourceDrives}
+use Rattle.rules.specs.Judge.{judged}
+use Rattle.rules.specs.Sound.{SoundNet}
 use Rattle.net.specs.Counted.{unlimited, Level}
-use Rattle.net.specs.Checked.{checked}
-use Rattle.net.specs.Ease.{carried, easeJudged}
-use Rattle.net.proofs.SoundSays.{sound-says}
+use Rattle.rules.specs.Checked.{checked}
+use Rattle.rules.specs.Ease.{carried, easeJudged}
+use Rattle.rules.proofs.SoundSays.{sound-says}
 use Rattle.checker.specs.declared.Verdict.{Verdict}
 use Rattle.checker.specs.Verdict.{verdict, LegalColumns}
 use Rattle.checker.proofs.CheckedIsLegal.{checked-is-legal}

@@ -6,10 +6,10 @@ use native.Mathlib.Omega.{arith}
 use borrow.Author.Count.{below-more}
 use lib.ListN.{length, getD, set, length-set}
 use lib.Seq.{ext-getD, getD-set-same, getD-set-other}
-use Rattle.net.specs.declared.Entry.{Entry}
-use Rattle.net.specs.Net.{Net, wire}
-use Rattle.net.specs.Load.{entries}
-use Rattle.net.specs.Ease.{carried}
+use Rattle.rules.specs.declared.Entry.{Entry}
+use Rattle.rules.specs.Net.{Net, wire}
+use Rattle.rules.specs.Load.{entries}
+use Rattle.rules.specs.Ease.{carried}
 use Rattle.carry.specs.Carry.{offsetsOf}
 
 module _ (m : Net) where

@@ -9,17 +9,17 @@ use lib.Dec.{eqb, leb}
 use lib.ListN.{length, getD, List·getD-eq-default}
 use lib.Seq.{ext-getD}
 use borrow.Author.Tests.{eqb-true, leb-true}
-use Rattle.net.specs.declared.Node.{Node}
-use Rattle.net.specs.declared.Judged.the-variants.{Sound}
-use Rattle.net.specs.declared.Refusal.the-variants.{OutOfRange, WrongColumns, NotEased}
-use Rattle.net.specs.Choose.{both}
-use Rattle.net.specs.Net.{Net, places, parent, wire, kind, pin, polarity, node}
-use Rattle.net.specs.Judge.{unless, columnsFit, limitsInRange, sourceClear, judged}
-use Rattle.net.specs.Sound.{SoundNet}
-use Rattle.net.specs.Ease.{Eases, limitsEase, nodeEases, nodesEase, easeJudged}
-use Rattle.net.proofs.Tests.{both-met, unless-met, then-met}
-use Rattle.net.proofs.Each.{each-met}
-use Rattle.net.proofs.SoundSays.{sound-says}
+use Rattle.rules.specs.declared.Node.{Node}
+use Rattle.rules.specs.declared.Judged.the-variants.{Sound}
+use Rattle.rules.specs.declared.Refusal.the-variants.{OutOfRange, WrongColumns, NotEased}
+use Rattle.rules.specs.Choose.{both}
+use Rattle.rules.specs.Net.{Net, places, parent, wire, kind, pin, polarity, node}
+use Rattle.rules.specs.Judge.{unless, columnsFit, limitsInRange, sourceClear, judged}
+use Rattle.rules.specs.Sound.{SoundNet}
+use Rattle.rules.specs.Ease.{Eases, limitsEase, nodeEases, nodesEase, easeJudged}
+use Rattle.rules.proofs.Tests.{both-met, unless-met, then-met}
+use Rattle.rules.proofs.Each.{each-met}
+use Rattle.rules.proofs.SoundSays.{sound-says}
 
 -- "node 0's five places all hold 0"
 record Clear (n : Net) : Type 0 where

@@ -2,14 +2,14 @@
 use Prim.Native.Nat.{ℕ}
 use mathlib.Core.Path.{_≡_, refl}
 use mathlib.Core.List.{List, [], _∷_}
-use Rattle.net.specs.declared.Refusal.the-variants.{OutOfRange, NotEased, Overloaded}
-use Rattle.net.specs.Net.{Net, net}
-use Rattle.net.specs.Tree.{hanging}
-use Rattle.net.specs.Load.{entries, offsetsOn, drives, handsUp, handedBy, loadBelow, drivenOn, joined, driven}
-use Rattle.net.specs.Legal.{onTheWay, inverters}
-use Rattle.net.specs.Judge.{children, judgeEach, judged}
-use Rattle.net.specs.Checked.{placedFrom, withinLimit, firstSink, placementJudged, checked}
-use Rattle.net.specs.Ease.{easeJudged}
+use Rattle.rules.specs.declared.Refusal.the-variants.{OutOfRange, NotEased, Overloaded}
+use Rattle.rules.specs.Net.{Net, net}
+use Rattle.rules.specs.Tree.{hanging}
+use Rattle.rules.specs.Load.{entries, offsetsOn, drives, handsUp, handedBy, loadBelow, drivenOn, joined, driven}
+use Rattle.rules.specs.Legal.{onTheWay, inverters}
+use Rattle.rules.specs.Judge.{children, judgeEach, judged}
+use Rattle.rules.specs.Checked.{placedFrom, withinLimit, firstSink, placementJudged, checked}
+use Rattle.rules.specs.Ease.{easeJudged}
 use Rattle.carry.specs.declared.Outcome.{Outcome}
 use Rattle.carry.specs.declared.Outcome.the-variants.{Carried, FirstNet, SecondNet, Refused}
 use Rattle.carry.specs.Carry.{outcome, columnAfter}

@@ -4,13 +4,13 @@ use mathlib.Core.Path.{_≡_, refl, sym, _∙_}
 use mathlib.Core.Bool.{Bool, true, false}
 use native.Mathlib.Omega.{arith}
 use borrow.Author.Tests.{eq-eqb, ne-eqb}
-use Rattle.net.specs.declared.Node.{Node}
-use Rattle.net.specs.declared.Judged.the-variants.{Sound, Refused}
-use Rattle.net.specs.declared.Refusal.the-variants.{NotEased}
-use Rattle.net.specs.Net.{Net, places, node}
-use Rattle.net.specs.Judge.{unless}
-use Rattle.net.specs.Ease.{limitsEase, nodeEases, nodesEase, easeJudged}
-use Rattle.net.proofs.Each.{Going, going-start, going-stop, going-next, going-end}
+use Rattle.rules.specs.declared.Node.{Node}
+use Rattle.rules.specs.declared.Judged.the-variants.{Sound, Refused}
+use Rattle.rules.specs.declared.Refusal.the-variants.{NotEased}
+use Rattle.rules.specs.Net.{Net, places, node}
+use Rattle.rules.specs.Judge.{unless}
+use Rattle.rules.specs.Ease.{limitsEase, nodeEases, nodesEase, easeJudged}
+use Rattle.rules.proofs.Each.{Going, going-start, going-stop, going-next, going-end}
 
 -- the loop has come to node i
 pub record Easing (n m : Net) (i : ℕ) : Type 0 where

@@ -3,15 +3,15 @@ use Prim.Native.Nat.{ℕ, _<_}
 use mathlib.Core.Path.{_≡_}
 use mathlib.Core.List.{List, map}
 use lib.ListN.{length, getD}
-use Rattle.net.specs.declared.Entry.{Entry}
-use Rattle.net.specs.declared.Judged.{Judged}
-use Rattle.net.specs.declared.Judged.the-variants as judgements
-use Rattle.net.specs.Net.{Net}
-use Rattle.net.specs.Refusal.{numberOf, placeOf}
-use Rattle.net.specs.Load.{entries}
-use Rattle.net.specs.Judge.{thenJudge, judged}
-use Rattle.net.specs.Checked.{checked}
-use Rattle.net.specs.Ease.{carried, easeJudged}
+use Rattle.rules.specs.declared.Entry.{Entry}
+use Rattle.rules.specs.declared.Judged.{Judged}
+use Rattle.rules.specs.declared.Judged.the-variants as judgements
+use Rattle.rules.specs.Net.{Net}
+use Rattle.rules.specs.Refusal.{numberOf, placeOf}
+use Rattle.rules.specs.Load.{entries}
+use Rattle.rules.specs.Judge.{thenJudge, judged}
+use Rattle.rules.specs.Checked.{checked}
+use Rattle.rules.specs.Ease.{carried, easeJudged}
 use Rattle.carry.specs.declared.Outcome.{Outcome}
 use Rattle.carry.specs.declared.Outcome.the-variants.{Carried, FirstNet, SecondNet, Refused}
 

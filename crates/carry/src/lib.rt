@@ -1,17 +1,17 @@
 // A placement taken to a net that eases its own.
 use checker::Verdict;
-use net::Judged;
-use net::Limits;
-use net::Node;
-use net::Refusal;
+use rules::Judged;
+use rules::Limits;
+use rules::Node;
+use rules::Refusal;
 ghost use mathlib.Core.Path.{_≡_};
 ghost use Prim.Native.Nat.{min};
 ghost use lib.ListN.{length};
-ghost use Rattle.net.specs.Net.{Net, netAt};
-ghost use Rattle.net.specs.Load.{entries};
-ghost use Rattle.net.specs.Sound.{SoundNet};
+ghost use Rattle.rules.specs.Net.{Net, netAt};
+ghost use Rattle.rules.specs.Load.{entries};
+ghost use Rattle.rules.specs.Sound.{SoundNet};
 ghost use Rattle.net.specs.Counted.{unlimited, Level};
-ghost use Rattle.net.specs.Ease.{carried, limitsEase, nodeEases, nodesEase, easeJudged};
+ghost use Rattle.rules.specs.Ease.{carried, limitsEase, nodeEases, nodesEase, easeJudged};
 ghost use Rattle.carry.specs.Carry.{offsetsOf, CarriedIs, OnWires};
 
 // What the carry answers: the number of entries, or a refusal and what it is of.

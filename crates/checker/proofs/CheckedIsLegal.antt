@@ -9,19 +9,19 @@ use native.Mathlib.Omega.{arith}
 use native.Mathlib.Decide.{ℕ-discrete}
 use lib.Dec.{eqb, ltb, leb}
 use borrow.Author.Tests.{eqb-true, ltb-true, leb-true, eq-eqb, ne-eqb, lt-ltb, le-ltb, le-leb}
-use Rattle.net.specs.declared.Entry.{Entry}
-use Rattle.net.specs.declared.Judged.{Judged}
-use Rattle.net.specs.declared.Judged.the-variants.{Sound}
-use Rattle.net.specs.declared.Refusal.{Refusal}
-use Rattle.net.specs.declared.Refusal.the-variants.{WrongColumns, Misplaced, Overloaded, WrongParity}
-use Rattle.net.specs.Choose.{pick, both}
-use Rattle.net.specs.Net.{Net, places, wire, kind}
-use Rattle.net.specs.Load.{entries, offsetsOn, drivers}
-use Rattle.net.specs.Legal.{Each, After, higher, further, Stands, InOrder, start, sense, OneSense, Legal}
-use Rattle.net.specs.Judge.{unless, thenJudge, judged}
-use Rattle.net.specs.Checked.{placementFits, onItsWire, notLower, placedFrom, withinLimit, firstSink, hasSense, oneSense, placementJudged, columnsJudged, checked}
-use Rattle.net.proofs.Tests.{both-met, both-true, unless-met, then-met}
-use Rattle.net.proofs.Each.{each-met, each-sound}
+use Rattle.rules.specs.declared.Entry.{Entry}
+use Rattle.rules.specs.declared.Judged.{Judged}
+use Rattle.rules.specs.declared.Judged.the-variants.{Sound}
+use Rattle.rules.specs.declared.Refusal.{Refusal}
+use Rattle.rules.specs.declared.Refusal.the-variants.{WrongColumns, Misplaced, Overloaded, WrongParity}
+use Rattle.rules.specs.Choose.{pick, both}
+use Rattle.rules.specs.Net.{Net, places, wire, kind}
+use Rattle.rules.specs.Load.{entries, offsetsOn, drivers}
+use Rattle.rules.specs.Legal.{Each, After, higher, further, Stands, InOrder, start, sense, OneSense, Legal}
+use Rattle.rules.specs.Judge.{unless, thenJudge, judged}
+use Rattle.rules.specs.Checked.{placementFits, onItsWire, notLower, placedFrom, withinLimit, firstSink, hasSense, oneSense, placementJudged, columnsJudged, checked}
+use Rattle.rules.proofs.Tests.{both-met, both-true, unless-met, then-met}
+use Rattle.rules.proofs.Each.{each-met, each-sound}
 use Rattle.checker.specs.Verdict.{LegalColumns}
 
 unless-true : {t : Bool} → t ≡ true → (r : Refusal) → unless t r ≡ Sound

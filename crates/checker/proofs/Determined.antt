@@ -2,7 +2,7 @@
 use Prim.Native.Nat.{ℕ}
 use mathlib.Core.Path.{_≡_, sym, _∙_}
 use mathlib.Core.List.{List}
-use Rattle.net.specs.Net.{Net}
+use Rattle.rules.specs.Net.{Net}
 use Rattle.checker.specs.declared.Verdict.{Verdict}
 use Rattle.checker.specs.declared.Listed.{Listed}
 use Rattle.checker.specs.Verdict.{verdict}

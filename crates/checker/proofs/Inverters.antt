@@ -8,13 +8,13 @@ use borrow.Author.Count.{below-more}
 use borrow.Author.Tests.{eq-eqb, ne-eqb}
 use lib.ListN.{length, getD, set, length-set, length-append}
 use lib.Seq.{getD-set-same, getD-set-other}
-use Rattle.net.specs.Figures.{mostPlaces}
-use Rattle.net.specs.Net.{Net, places, parent}
-use Rattle.net.specs.Legal.{onTheWay, inverters}
-use Rattle.net.specs.Sound.{SoundNet}
-use Rattle.net.specs.declared.Judged.the-variants.{Sound}
-use Rattle.net.specs.Load.{entries, offsetsOn}
-use Rattle.net.specs.Checked.{oneSense}
+use Rattle.rules.specs.Figures.{mostPlaces}
+use Rattle.rules.specs.Net.{Net, places, parent}
+use Rattle.rules.specs.Legal.{onTheWay, inverters}
+use Rattle.rules.specs.Sound.{SoundNet}
+use Rattle.rules.specs.declared.Judged.the-variants.{Sound}
+use Rattle.rules.specs.Load.{entries, offsetsOn}
+use Rattle.rules.specs.Checked.{oneSense}
 use Rattle.load.specs.Tables.{Clear}
 use Rattle.load.proofs.Parts.{offsetsTo, offsets-more, offsets-same}
 use Rattle.checker.specs.Parity.{Counted, Turned}

@@ -5,14 +5,14 @@ use mathlib.Core.List.{List}
 use native.Mathlib.Omega.{arith}
 use lib.ListN.{length, getD}
 use borrow.Author.Tests.{eq-eqb, ne-eqb}
-use Rattle.net.specs.declared.Refusal.the-variants.{WrongParity}
-use Rattle.net.specs.declared.Judged.the-variants.{Sound, Refused}
-use Rattle.net.specs.Net.{Net, places, kind, polarity}
-use Rattle.net.specs.Legal.{sense}
-use Rattle.net.specs.Sound.{SoundNet}
-use Rattle.net.specs.Judge.{judgeEach}
-use Rattle.net.specs.Checked.{firstSink, hasSense, oneSense}
-use Rattle.net.proofs.Each.{Going, going-start, going-stop, going-next, going-end}
+use Rattle.rules.specs.declared.Refusal.the-variants.{WrongParity}
+use Rattle.rules.specs.declared.Judged.the-variants.{Sound, Refused}
+use Rattle.rules.specs.Net.{Net, places, kind, polarity}
+use Rattle.rules.specs.Legal.{sense}
+use Rattle.rules.specs.Sound.{SoundNet}
+use Rattle.rules.specs.Judge.{judgeEach}
+use Rattle.rules.specs.Checked.{firstSink, hasSense, oneSense}
+use Rattle.rules.proofs.Each.{Going, going-start, going-stop, going-next, going-end}
 use Rattle.checker.specs.Parity.{Turned}
 use Rattle.checker.proofs.CheckedIsLegal.{no-sinks}
 

@@ -7,10 +7,10 @@ use native.Mathlib.Omega.{arith}
 use lib.Dec.{leb}
 use lib.ListN.{length, getD}
 use borrow.Author.Tests.{lt-ltb, le-ltb, le-leb, lt-leb, eq-eqb, ne-eqb}
-use Rattle.net.specs.declared.Entry.{Entry}
-use Rattle.net.specs.Choose.{both}
-use Rattle.net.specs.Net.{Net, places, wire}
-use Rattle.net.specs.Checked.{onItsWire, notLower}
+use Rattle.rules.specs.declared.Entry.{Entry}
+use Rattle.rules.specs.Choose.{both}
+use Rattle.rules.specs.Net.{Net, places, wire}
+use Rattle.rules.specs.Checked.{onItsWire, notLower}
 use Rattle.checker.specs.Stands.{HasWires}
 
 module _ {n : Net} {ws : List ℕ} (h : HasWires n ws) (d e : Entry) where

@@ -6,13 +6,13 @@ use native.Mathlib.Omega.{arith}
 use lib.Dec.{eqb, leb}
 use lib.ListN.{length, getD}
 use borrow.Author.Tests.{eqb-true, leb-true}
-use Rattle.net.specs.declared.Judged.{Judged}
-use Rattle.net.specs.declared.Judged.the-variants.{Sound, Refused}
-use Rattle.net.specs.declared.Refusal.{Refusal}
-use Rattle.net.specs.Figures.{mostEntries}
-use Rattle.net.specs.Net.{Net, places}
-use Rattle.net.specs.Legal.{start}
-use Rattle.net.proofs.Tests.{both-met}
+use Rattle.rules.specs.declared.Judged.{Judged}
+use Rattle.rules.specs.declared.Judged.the-variants.{Sound, Refused}
+use Rattle.rules.specs.declared.Refusal.{Refusal}
+use Rattle.rules.specs.Figures.{mostEntries}
+use Rattle.rules.specs.Net.{Net, places}
+use Rattle.rules.specs.Legal.{start}
+use Rattle.rules.proofs.Tests.{both-met}
 use Rattle.load.proofs.Order.{stands-at}
 use Rattle.checker.specs.declared.Verdict.{Verdict}
 use Rattle.checker.specs.Verdict.{verdictOf, LegalColumns}

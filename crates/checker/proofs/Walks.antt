@@ -9,17 +9,17 @@ use lib.Dec.{leb}
 use lib.ListN.{length, getD, drop, drop-of-length-le}
 use lib.Seq.{drop-cons}
 use borrow.Author.Tests.{le-leb, lt-leb, eq-eqb, ne-eqb}
-use Rattle.net.specs.declared.Entry.{Entry}
-use Rattle.net.specs.declared.Judged.{Judged}
-use Rattle.net.specs.declared.Judged.the-variants.{Sound, Refused}
-use Rattle.net.specs.declared.Refusal.the-variants.{WrongColumns, Misplaced, Overloaded}
-use Rattle.net.specs.Figures.{mostEntries}
-use Rattle.net.specs.Choose.{both}
-use Rattle.net.specs.Net.{Net, kind}
-use Rattle.net.specs.Load.{entries}
-use Rattle.net.specs.Legal.{start}
-use Rattle.net.specs.Judge.{unless, thenJudge}
-use Rattle.net.specs.Checked.{onItsWire, notLower, placedFrom, withinLimit, firstSink}
+use Rattle.rules.specs.declared.Entry.{Entry}
+use Rattle.rules.specs.declared.Judged.{Judged}
+use Rattle.rules.specs.declared.Judged.the-variants.{Sound, Refused}
+use Rattle.rules.specs.declared.Refusal.the-variants.{WrongColumns, Misplaced, Overloaded}
+use Rattle.rules.specs.Figures.{mostEntries}
+use Rattle.rules.specs.Choose.{both}
+use Rattle.rules.specs.Net.{Net, kind}
+use Rattle.rules.specs.Load.{entries}
+use Rattle.rules.specs.Legal.{start}
+use Rattle.rules.specs.Judge.{unless, thenJudge}
+use Rattle.rules.specs.Checked.{onItsWire, notLower, placedFrom, withinLimit, firstSink}
 use Rattle.load.proofs.Order.{at}
 use Rattle.checker.specs.Stands.{stood}
 

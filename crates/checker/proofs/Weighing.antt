@@ -7,19 +7,19 @@ use lib.Dec.{eqb, leb}
 use lib.ListN.{length}
 use lib.Seq.{sets}
 use borrow.Author.Tests.{eqb-true, leb-true, le-leb, lt-leb}
-use Rattle.net.specs.declared.Judged.{Judged}
-use Rattle.net.specs.declared.Judged.the-variants.{Sound, Refused}
-use Rattle.net.specs.declared.Refusal.{Refusal}
-use Rattle.net.specs.declared.Refusal.the-variants.{WrongColumns, Overloaded, NoRoom}
-use Rattle.net.specs.Figures.{mostEntries}
-use Rattle.net.specs.Net.{Net, places}
-use Rattle.net.specs.Load.{entries, offsetsOn, driven, sourceDrives, drivers, loadBelow}
-use Rattle.net.specs.Legal.{start}
-use Rattle.net.specs.Sound.{SoundNet}
-use Rattle.net.specs.Judge.{unless, thenJudge, judged}
-use Rattle.net.specs.Checked.{placementFits, placedFrom, withinLimit, oneSense, placementJudged, checked}
-use Rattle.net.proofs.Tests.{both-met, unless-met, then-met}
-use Rattle.net.proofs.SoundSays.{sound-says}
+use Rattle.rules.specs.declared.Judged.{Judged}
+use Rattle.rules.specs.declared.Judged.the-variants.{Sound, Refused}
+use Rattle.rules.specs.declared.Refusal.{Refusal}
+use Rattle.rules.specs.declared.Refusal.the-variants.{WrongColumns, Overloaded, NoRoom}
+use Rattle.rules.specs.Figures.{mostEntries}
+use Rattle.rules.specs.Net.{Net, places}
+use Rattle.rules.specs.Load.{entries, offsetsOn, driven, sourceDrives, drivers, loadBelow}
+use Rattle.rules.specs.Legal.{start}
+use Rattle.rules.specs.Sound.{SoundNet}
+use Rattle.rules.specs.Judge.{unless, thenJudge, judged}
+use Rattle.rules.specs.Checked.{placementFits, placedFrom, withinLimit, oneSense, placementJudged, checked}
+use Rattle.rules.proofs.Tests.{both-met, unless-met, then-met}
+use Rattle.rules.proofs.SoundSays.{sound-says}
 use Rattle.load.specs.Asks.{Placed}
 use Rattle.load.proofs.Wire.{driven-length}
 use Rattle.checker.specs.declared.Verdict.{Verdict}

@@ -5,13 +5,13 @@ use mathlib.Core.List.{List}
 use lib.Dec.{leb}
 use lib.ListN.{length}
 use lib.Seq.{sets}
-use Rattle.net.specs.declared.Judged.{Judged}
-use Rattle.net.specs.declared.Judged.the-variants.{Sound, Refused}
-use Rattle.net.specs.declared.Refusal.the-variants.{NoRoom}
-use Rattle.net.specs.Net.{Net}
-use Rattle.net.specs.Refusal.{numberOf, placeOf}
-use Rattle.net.specs.Load.{entries, offsetsOn, driven, sourceDrives}
-use Rattle.net.specs.Judge.{unless, thenJudge}
+use Rattle.rules.specs.declared.Judged.{Judged}
+use Rattle.rules.specs.declared.Judged.the-variants.{Sound, Refused}
+use Rattle.rules.specs.declared.Refusal.the-variants.{NoRoom}
+use Rattle.rules.specs.Net.{Net}
+use Rattle.rules.specs.Refusal.{numberOf, placeOf}
+use Rattle.rules.specs.Load.{entries, offsetsOn, driven, sourceDrives}
+use Rattle.rules.specs.Judge.{unless, thenJudge}
 use Rattle.checker.specs.Stands.{begun}
 use Rattle.checker.specs.declared.Listed.{Listed}
 use Rattle.checker.specs.declared.Listed.the-variants as lists

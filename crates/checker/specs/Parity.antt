@@ -3,9 +3,9 @@ use Prim.Native.Nat.{ℕ, _%_, _≤_, _<_}
 use mathlib.Core.Path.{_≡_}
 use mathlib.Core.List.{List}
 use lib.ListN.{length, getD}
-use Rattle.net.specs.Figures.{mostPlaces}
-use Rattle.net.specs.Net.{Net}
-use Rattle.net.specs.Legal.{inverters}
+use Rattle.rules.specs.Figures.{mostPlaces}
+use Rattle.rules.specs.Net.{Net}
+use Rattle.rules.specs.Legal.{inverters}
 
 -- the table holds for each wire from k on whether the entries on it are odd in number
 pub record Counted (offs : ℕ → List ℕ) (k : ℕ) (odd : List ℕ) : Type 0 where

@@ -3,13 +3,13 @@ use Prim.Native.Nat.{ℕ}
 use mathlib.Core.Path.{_≡_}
 use mathlib.Core.List.{List}
 use lib.ListN.{length}
-use Rattle.net.specs.declared.Judged.{Judged}
-use Rattle.net.specs.declared.Refusal.the-variants.{WrongColumns}
-use Rattle.net.specs.Net.{Net, places}
-use Rattle.net.specs.Load.{entries}
-use Rattle.net.specs.Legal.{start}
-use Rattle.net.specs.Judge.{unless, thenJudge, judged}
-use Rattle.net.specs.Checked.{placementFits, placedFrom}
+use Rattle.rules.specs.declared.Judged.{Judged}
+use Rattle.rules.specs.declared.Refusal.the-variants.{WrongColumns}
+use Rattle.rules.specs.Net.{Net, places}
+use Rattle.rules.specs.Load.{entries}
+use Rattle.rules.specs.Legal.{start}
+use Rattle.rules.specs.Judge.{unless, thenJudge, judged}
+use Rattle.rules.specs.Checked.{placementFits, placedFrom}
 
 abbrev pub stood : Net → List ℕ → List ℕ → Judged
 stood n vs os = thenJudge (unless (placementFits vs os) WrongColumns) (placedFrom n start 0 (entries vs os))

@@ -5,15 +5,15 @@ use mathlib.Core.Bool.{true}
 use mathlib.Core.List.{List}
 use lib.Dec.{leb}
 use lib.ListN.{length}
-use Rattle.net.specs.declared.Judged.{Judged}
-use Rattle.net.specs.declared.Judged.the-variants.{Sound, Refused}
-use Rattle.net.specs.declared.Refusal.the-variants.{Overloaded}
-use Rattle.net.specs.Refusal.{numberOf, placeOf}
-use Rattle.net.specs.Net.{Net}
-use Rattle.net.specs.Load.{entries, offsetsOn, sourceDrives, drivers}
-use Rattle.net.specs.Legal.{Legal}
-use Rattle.net.specs.Judge.{unless, thenJudge, judged}
-use Rattle.net.specs.Checked.{placementFits, withinLimit, oneSense, checked}
+use Rattle.rules.specs.declared.Judged.{Judged}
+use Rattle.rules.specs.declared.Judged.the-variants.{Sound, Refused}
+use Rattle.rules.specs.declared.Refusal.the-variants.{Overloaded}
+use Rattle.rules.specs.Refusal.{numberOf, placeOf}
+use Rattle.rules.specs.Net.{Net}
+use Rattle.rules.specs.Load.{entries, offsetsOn, sourceDrives, drivers}
+use Rattle.rules.specs.Legal.{Legal}
+use Rattle.rules.specs.Judge.{unless, thenJudge, judged}
+use Rattle.rules.specs.Checked.{placementFits, withinLimit, oneSense, checked}
 use Rattle.checker.specs.declared.Verdict.{Verdict}
 use Rattle.checker.specs.declared.Verdict.the-variants as verdicts
 

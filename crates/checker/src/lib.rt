@@ -1,18 +1,18 @@
 // The checker: judges anybody's placement on a net, and lists what each entry drives.
-use net::Entry;
-use net::Judged;
-use net::Limits;
-use net::Refusal;
+use rules::Entry;
+use rules::Judged;
+use rules::Limits;
+use rules::Refusal;
 ghost use mathlib.Core.Path.{_≡_};
 ghost use Prim.Native.Nat.{_+_, _*_, _%_, _-_, _≤_, _<_};
 ghost use lib.ListN.{length, getD};
 ghost use lib.Seq.{sets};
-ghost use Rattle.net.specs.Figures.{mostPlaces};
-ghost use Rattle.net.specs.Choose.{both};
-ghost use Rattle.net.specs.Net.{Net, netAt, places};
-ghost use Rattle.net.specs.Load.{driven, sourceDrives};
-ghost use Rattle.net.specs.Sound.{SoundNet};
-ghost use Rattle.net.specs.Checked.{onItsWire, notLower, withinLimit, firstSink, oneSense};
+ghost use Rattle.rules.specs.Figures.{mostPlaces};
+ghost use Rattle.rules.specs.Choose.{both};
+ghost use Rattle.rules.specs.Net.{Net, netAt, places};
+ghost use Rattle.rules.specs.Load.{driven, sourceDrives};
+ghost use Rattle.rules.specs.Sound.{SoundNet};
+ghost use Rattle.rules.specs.Checked.{onItsWire, notLower, withinLimit, firstSink, oneSense};
 ghost use Rattle.load.specs.Tables.{Clear, Tables};
 ghost use Rattle.load.specs.Asks.{offsetsAt, Placed, Weighable};
 ghost use Rattle.checker.specs.Verdict.{settled, weighed, verdict};

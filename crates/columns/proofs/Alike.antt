@@ -5,7 +5,7 @@ use mathlib.Core.List.{List, [], _∷_, map}
 use native.Mathlib.Omega.{arith}
 use lib.ListN.{length, getD, set}
 use lib.Seq.{sets, length-sets, getD-set-other}
-use Rattle.net.specs.declared.Entry.{Entry}
+use Rattle.rules.specs.declared.Entry.{Entry}
 use Rattle.columns.specs.Columns.{Kept, Holds}
 use Rattle.columns.proofs.Listing.{column-length}
 

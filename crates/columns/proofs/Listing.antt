@@ -5,7 +5,7 @@ use mathlib.Core.List.{List, [], _∷_, _++_, append-assoc, append-nil, map}
 use native.Mathlib.Omega.{arith}
 use lib.ListN.{length, replicate, length-append}
 use lib.Seq.{sets, length-sets}
-use Rattle.net.specs.declared.Entry.{Entry}
+use Rattle.rules.specs.declared.Entry.{Entry}
 use Rattle.frontier.specs.Placed.{onWire, onWires}
 use Rattle.columns.specs.Columns.{wireColumn, offsetColumn}
 use Rattle.columns.proofs.Spacing.{sets-append}

@@ -4,8 +4,8 @@ use mathlib.Core.Path.{_≡_}
 use mathlib.Core.List.{List, map}
 use lib.ListN.{length}
 use lib.Seq.{sets}
-use Rattle.net.specs.declared.Entry.{Entry}
-use Rattle.net.specs.Figures.{mostEntries}
+use Rattle.rules.specs.declared.Entry.{Entry}
+use Rattle.rules.specs.Figures.{mostEntries}
 
 -- a placement in memory: its wires and its offsets
 abbrev pub wireColumn : List Entry → List ℕ

@@ -3,7 +3,7 @@ ghost use mathlib.Core.Path.{_≡_};
 ghost use Prim.Native.Nat.{_+_, _≤_, min};
 ghost use lib.ListN.{length, replicate};
 ghost use lib.Seq.{sets};
-ghost use Rattle.net.specs.Figures.{mostEntries};
+ghost use Rattle.rules.specs.Figures.{mostEntries};
 ghost use Rattle.frontier.specs.Spaced.{steps};
 
 // The room: the shorter of two columns, and at most 4,096.

@@ -5,7 +5,7 @@ use mathlib.Core.List.{List, _++_}
 use native.Mathlib.Omega.{arith}
 use lib.ListN.{length, replicate, length-append, length-replicate}
 use lib.Seq.{sets}
-use Rattle.net.specs.Net.{Net, wire}
+use Rattle.rules.specs.Net.{Net, wire}
 use Rattle.frontier.specs.Cell.{Cell}
 use Rattle.frontier.specs.Spaced.{steps}
 use Rattle.cuts.specs.Offsets.{offsets}

@@ -7,10 +7,10 @@ use mathlib.Core.Bool.{Bool, true, false}
 use lib.ListN.{length, getD}
 use lib.Dec.{ltb, eqb}
 use borrow.Author.Tests.{eqb-true, eq-eqb, ne-eqb, le-ltb}
-use Rattle.net.specs.declared.Refusal.the-variants.{FileEnds, NotDue}
-use Rattle.net.specs.Refusal.{placeOf}
-use Rattle.net.specs.Choose.{pick}
-use Rattle.net.proofs.Tests.{never}
+use Rattle.rules.specs.declared.Refusal.the-variants.{FileEnds, NotDue}
+use Rattle.rules.specs.Refusal.{placeOf}
+use Rattle.rules.specs.Choose.{pick}
+use Rattle.rules.proofs.Tests.{never}
 use Rattle.field.specs.declared.Value.{Value}
 use Rattle.field.specs.declared.Field.{Field}
 use Rattle.field.specs.declared.FieldRead.{FieldRead}

@@ -3,7 +3,7 @@ use Prim.Native.Nat.{ℕ}
 use mathlib.Core.Path.{_≡_, refl}
 use mathlib.Core.List.{List, [], _∷_}
 use lib.ListN.{take}
-use Rattle.net.specs.declared.Refusal.the-variants.{FileEnds}
+use Rattle.rules.specs.declared.Refusal.the-variants.{FileEnds}
 use Rattle.field.specs.declared.Value.the-variants.{Limits, Sink, End}
 use Rattle.field.specs.declared.FieldRead.the-variants.{Got, Refused}
 use Rattle.field.specs.Format.{fieldIn, fieldAt}

@@ -8,10 +8,10 @@ use lib.ListN.{length, getD, take, drop, length-drop}
 use lib.Seq.{take-all}
 use lib.Dec.{ltb, eqb}
 use borrow.Author.Tests.{lt-ltb, le-ltb, eq-eqb, ne-eqb}
-use Rattle.net.specs.declared.Refusal.the-variants.{FileEnds, NotDue}
+use Rattle.rules.specs.declared.Refusal.the-variants.{FileEnds, NotDue}
 use Rattle.field.specs.declared.Value.{Value}
 use Rattle.field.specs.declared.FieldRead.the-variants.{Got, Cut, Refused}
-use Rattle.net.specs.Choose.{pick}
+use Rattle.rules.specs.Choose.{pick}
 use Rattle.field.specs.Format.{numberAt, lengthOf, valueIn, fieldIn, fieldAt, readPlace}
 
 pub short : (at : ℕ) (l : List ℕ) → length l < 3 → Refused (FileEnds at) ≡ fieldIn at l

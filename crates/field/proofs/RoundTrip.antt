@@ -9,13 +9,13 @@ use lib.ListN.{length, getD, take, drop, length-drop, length-append, take-append
 use lib.Seq.{getD-drop, length-take-le, drop-drop, drop-append-seam}
 use lib.Dec.{ltb, eqb}
 use borrow.Author.Tests.{eqb-true, ltb-false}
-use Rattle.net.specs.declared.Refusal.the-variants.{FileEnds, NotDue}
+use Rattle.rules.specs.declared.Refusal.the-variants.{FileEnds, NotDue}
 use Rattle.field.specs.declared.Value.{Value}
 use Rattle.field.specs.declared.Value.the-variants.{Limits, Branch, Sink, Count, Entry, End}
 use Rattle.field.specs.declared.Field.{Field}
 use Rattle.field.specs.declared.FieldRead.the-variants.{Got, Cut, Refused}
-use Rattle.net.specs.Choose.{pick}
-use Rattle.net.proofs.Tests.{never}
+use Rattle.rules.specs.Choose.{pick}
+use Rattle.rules.proofs.Tests.{never}
 use Rattle.field.specs.Format.{numberAt, numbersAt, bytesOfAll, sum, table, lookup, widthsOf, lengthOf, tagOf, numbersOf, valueOf, valueIn, fieldIn, fieldAt, bytesOf, Fitting}
 use Rattle.field.proofs.Numbers.{AreBytes, numbers-back, all-back}
 use Rattle.field.proofs.Reading.{got}

@@ -7,9 +7,9 @@ use lib.ListN.{length}
 use lib.Seq.{sets}
 use lib.Dec.{ltb}
 use mathlib.Core.Bool.{Bool, true, false}
-use Rattle.net.specs.Choose.{pick}
+use Rattle.rules.specs.Choose.{pick}
 use borrow.Author.Tests.{lt-ltb, le-ltb}
-use Rattle.net.specs.declared.Refusal.the-variants.{NoRoom}
+use Rattle.rules.specs.declared.Refusal.the-variants.{NoRoom}
 use Rattle.field.specs.declared.Wrote.the-variants.{Bytes, Refused}
 use Rattle.field.specs.Format.{wrote, laid, wroteNumber, wroteCount}
 

@@ -5,10 +5,10 @@ use mathlib.Core.Bool.{Bool}
 use lib.ListN.{length, getD, drop}
 use lib.Dec.{ltb, eqb}
 use lib.Seq.{sets}
-use Rattle.net.specs.Choose.{pick}
-use Rattle.net.specs.Refusal.{numberOf, placeOf}
-use Rattle.net.specs.declared.Refusal.{Refusal}
-use Rattle.net.specs.declared.Refusal.the-variants.{FileEnds, NotDue, NoRoom}
+use Rattle.rules.specs.Choose.{pick}
+use Rattle.rules.specs.Refusal.{numberOf, placeOf}
+use Rattle.rules.specs.declared.Refusal.{Refusal}
+use Rattle.rules.specs.declared.Refusal.the-variants.{FileEnds, NotDue, NoRoom}
 use Rattle.field.specs.declared.Value.{Value}
 use Rattle.field.specs.declared.Value.the-variants.{Limits, Branch, Sink, Count, Entry, End}
 use Rattle.field.specs.declared.FieldRead.{FieldRead}

@@ -5,9 +5,9 @@ ghost use Prim.Native.Nat.{_+_, _<_, _≤_};
 ghost use lib.ListN.{length, getD};
 ghost use lib.Seq.{sets};
 ghost use Rattle.field.specs.Format.{numberAt, bytesIn, lengthOf, valueIn, fieldIn, fieldAt, dueIn, dueAt, bytesOf, wrote, laid};
-use net::Entry;
-use net::Limits;
-use net::Refusal;
+use rules::Entry;
+use rules::Limits;
+use rules::Refusal;
 
 // The values of a field.
 pub enum Value {

@@ -4,12 +4,12 @@ use mathlib.Core.Path.{_≡_, refl, sym, subst, ap, _∙_}
 use mathlib.Core.List.{List, [], _∷_}
 use lib.ListN.{length, getD, replicate, getD-replicate, length-replicate}
 use native.Mathlib.Omega.{arith}
-use Rattle.net.specs.declared.Entry.{Entry}
-use Rattle.net.specs.Figures.{mostPlaces}
-use Rattle.net.specs.Net.{Net, places, wire}
-use Rattle.net.specs.Load.{entries}
-use Rattle.net.specs.Legal.{InOrder, Stands, start, Each}
-use Rattle.net.specs.Sound.{SoundNet}
+use Rattle.rules.specs.declared.Entry.{Entry}
+use Rattle.rules.specs.Figures.{mostPlaces}
+use Rattle.rules.specs.Net.{Net, places, wire}
+use Rattle.rules.specs.Load.{entries}
+use Rattle.rules.specs.Legal.{InOrder, Stands, start, Each}
+use Rattle.rules.specs.Sound.{SoundNet}
 use Rattle.load.proofs.Clear.{none-in}
 use Rattle.frontier.specs.Cell.{Cell}
 use Rattle.buffers.specs.Chain.{sumL, Chain}

@@ -5,14 +5,14 @@ use mathlib.Core.Path.{_≡_}
 use mathlib.Core.List.{List, []}
 use native.Mathlib.Omega.{arith}
 use lib.ListN.{length}
-use Rattle.net.specs.declared.Entry.{Entry}
-use Rattle.net.specs.declared.Refusal.the-variants.{NoLegalPlacement, NoRoom}
-use Rattle.net.specs.Net.{Net}
-use Rattle.net.specs.Legal.{InOrder, start, Legal, Least, NoneLegal}
-use Rattle.net.specs.Complete.{LeastAdded, NoneCompletes, Contains}
-use Rattle.net.specs.Ease.{Eases, carried}
-use Rattle.net.proofs.Completing.{least-alone, none-alone, ease-completes, ease-least-added}
-use Rattle.net.proofs.Containing.{none-contains, least-contains}
+use Rattle.rules.specs.declared.Entry.{Entry}
+use Rattle.rules.specs.declared.Refusal.the-variants.{NoLegalPlacement, NoRoom}
+use Rattle.rules.specs.Net.{Net}
+use Rattle.rules.specs.Legal.{InOrder, start, Legal, Least, NoneLegal}
+use Rattle.rules.specs.Complete.{LeastAdded, NoneCompletes, Contains}
+use Rattle.rules.specs.Ease.{Eases, carried}
+use Rattle.rules.proofs.Completing.{least-alone, none-alone, ease-completes, ease-least-added}
+use Rattle.rules.proofs.Containing.{none-contains, least-contains}
 use Rattle.finish.specs.declared.Finished.{Finished}
 use Rattle.finish.specs.declared.Finished.the-variants.{Added, Refused}
 use Rattle.finish.specs.Answer.{Outcome, none, full, finished}

@@ -5,13 +5,13 @@ use mathlib.Core.Path.{_≡_, sym, ap, _∙_}
 use mathlib.Core.List.{List}
 use native.Mathlib.Omega.{arith}
 use lib.ListN.{length}
-use Rattle.net.specs.declared.Entry.{Entry}
-use Rattle.net.specs.declared.Refusal.the-variants.{NoRoom}
-use Rattle.net.specs.declared.Judged.{Judged}
-use Rattle.net.specs.declared.Judged.the-variants as judge
-use Rattle.net.specs.Net.{Net}
-use Rattle.net.specs.Load.{entries}
-use Rattle.net.proofs.Completing.{one-least-added}
+use Rattle.rules.specs.declared.Entry.{Entry}
+use Rattle.rules.specs.declared.Refusal.the-variants.{NoRoom}
+use Rattle.rules.specs.declared.Judged.{Judged}
+use Rattle.rules.specs.declared.Judged.the-variants as judge
+use Rattle.rules.specs.Net.{Net}
+use Rattle.rules.specs.Load.{entries}
+use Rattle.rules.proofs.Completing.{one-least-added}
 use Rattle.columns.specs.Columns.{roomIn}
 use Rattle.columns.proofs.Alike.{Alike, alike-kept, alike-holds}
 use Rattle.finish.specs.declared.Finished.{Finished}

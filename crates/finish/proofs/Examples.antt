@@ -4,18 +4,18 @@ use mathlib.Core.Path.{_≡_, refl}
 use mathlib.Core.List.{List, [], _∷_}
 use lib.ListN.{length, getD}
 use native.Mathlib.Omega.{arith}
-use Rattle.net.specs.declared.Limits.{Limits}
-use Rattle.net.specs.declared.Entry.{Entry}
-use Rattle.net.specs.declared.Refusal.the-variants.{OutOfRange, WrongColumns, Misplaced}
-use Rattle.net.specs.declared.Judged.the-variants.{Sound, Refused}
-use Rattle.net.specs.Net.{Net, kind}
-use Rattle.net.specs.Tree.{hanging, under}
-use Rattle.net.specs.Load.{offsetsOn, entries}
-use Rattle.net.specs.Legal.{higher, further, InOrder, start}
-use Rattle.net.specs.Complete.{LeastAdded, NoneCompletes}
-use Rattle.net.specs.Judge.{judgeEach, children, judged}
-use Rattle.net.specs.Checked.{placedFrom}
-use Rattle.net.proofs.SoundSays.{sound-says}
+use Rattle.rules.specs.declared.Limits.{Limits}
+use Rattle.rules.specs.declared.Entry.{Entry}
+use Rattle.rules.specs.declared.Refusal.the-variants.{OutOfRange, WrongColumns, Misplaced}
+use Rattle.rules.specs.declared.Judged.the-variants.{Sound, Refused}
+use Rattle.rules.specs.Net.{Net, kind}
+use Rattle.rules.specs.Tree.{hanging, under}
+use Rattle.rules.specs.Load.{offsetsOn, entries}
+use Rattle.rules.specs.Legal.{higher, further, InOrder, start}
+use Rattle.rules.specs.Complete.{LeastAdded, NoneCompletes}
+use Rattle.rules.specs.Judge.{judgeEach, children, judged}
+use Rattle.rules.specs.Checked.{placedFrom}
+use Rattle.rules.proofs.SoundSays.{sound-says}
 use Rattle.frontier.specs.Cell.{Cell, cellOf}
 use Rattle.frontier.specs.Frontier.{ceil}
 use Rattle.frontier.specs.Placed.{onWire, onWires, placed}

@@ -4,14 +4,14 @@ use mathlib.Core.Path.{_≡_, refl, sym, subst, ap, _∙_}
 use mathlib.Core.List.{List}
 use lib.ListN.{length, getD}
 use native.Mathlib.Omega.{arith}
-use Rattle.net.specs.declared.Entry.{Entry}
-use Rattle.net.specs.declared.Refusal.the-variants.{NoLegalPlacement}
-use Rattle.net.specs.Figures.{mostPlaces}
-use Rattle.net.specs.Net.{Net, net, places, wire}
-use Rattle.net.specs.Load.{entries, offsetsOn}
-use Rattle.net.specs.Complete.{Completes, LeastAdded, NoneCompletes}
-use Rattle.net.specs.Sound.{SoundNet}
-use Rattle.net.proofs.Order.{in-order-rises}
+use Rattle.rules.specs.declared.Entry.{Entry}
+use Rattle.rules.specs.declared.Refusal.the-variants.{NoLegalPlacement}
+use Rattle.rules.specs.Figures.{mostPlaces}
+use Rattle.rules.specs.Net.{Net, net, places, wire}
+use Rattle.rules.specs.Load.{entries, offsetsOn}
+use Rattle.rules.specs.Complete.{Completes, LeastAdded, NoneCompletes}
+use Rattle.rules.specs.Sound.{SoundNet}
+use Rattle.rules.proofs.Order.{in-order-rises}
 use Rattle.frontier.specs.Cell.{Cell, kindOf, cellOf}
 use Rattle.frontier.specs.Placed.{onWires, placed}
 use Rattle.relief.specs.Pieces.{leadOf}

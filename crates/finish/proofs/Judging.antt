@@ -5,21 +5,21 @@ use mathlib.Core.List.{List}
 use lib.ListN.{length}
 use lib.Dec.{eqb, leb}
 use borrow.Author.Tests.{eq-eqb, ne-eqb, eqb-true, leb-true}
-use Rattle.net.specs.declared.Limits.{Limits}
-use Rattle.net.specs.declared.Entry.{Entry}
-use Rattle.net.specs.declared.Refusal.{Refusal}
-use Rattle.net.specs.declared.Refusal.the-variants.{OutOfRange, WrongColumns}
-use Rattle.net.specs.declared.Judged.{Judged}
-use Rattle.net.specs.declared.Judged.the-variants as judge
-use Rattle.net.specs.Figures.{mostEntries}
-use Rattle.net.specs.Net.{Net, net}
-use Rattle.net.specs.Load.{entries}
-use Rattle.net.specs.Legal.{start}
-use Rattle.net.specs.Judge.{unless, thenJudge, judged}
-use Rattle.net.specs.Checked.{placementFits, placedFrom}
-use Rattle.net.specs.Sound.{SoundNet}
-use Rattle.net.proofs.SoundSays.{sound-says}
-use Rattle.net.proofs.Tests.{both-met, unless-met, then-met}
+use Rattle.rules.specs.declared.Limits.{Limits}
+use Rattle.rules.specs.declared.Entry.{Entry}
+use Rattle.rules.specs.declared.Refusal.{Refusal}
+use Rattle.rules.specs.declared.Refusal.the-variants.{OutOfRange, WrongColumns}
+use Rattle.rules.specs.declared.Judged.{Judged}
+use Rattle.rules.specs.declared.Judged.the-variants as judge
+use Rattle.rules.specs.Figures.{mostEntries}
+use Rattle.rules.specs.Net.{Net, net}
+use Rattle.rules.specs.Load.{entries}
+use Rattle.rules.specs.Legal.{start}
+use Rattle.rules.specs.Judge.{unless, thenJudge, judged}
+use Rattle.rules.specs.Checked.{placementFits, placedFrom}
+use Rattle.rules.specs.Sound.{SoundNet}
+use Rattle.rules.proofs.SoundSays.{sound-says}
+use Rattle.rules.proofs.Tests.{both-met, unless-met, then-met}
 use Rattle.checker.proofs.CheckedIsLegal.{placed-order}
 use Rattle.checker.specs.Stands.{stood}
 use Rattle.finish.specs.Given.{Stood}

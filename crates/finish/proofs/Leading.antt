@@ -6,9 +6,9 @@ use lib.ListN.{length, getD, set, length-set}
 use lib.Seq.{getD-set-same, getD-set-other}
 use native.Mathlib.Omega.{arith}
 use native.Mathlib.Decide.{ℕ-discrete}
-use Rattle.net.specs.declared.Entry.{Entry}
-use Rattle.net.specs.Load.{entries, offsetsOn}
-use Rattle.net.proofs.Order.{Rising}
+use Rattle.rules.specs.declared.Entry.{Entry}
+use Rattle.rules.specs.Load.{entries, offsetsOn}
+use Rattle.rules.proofs.Order.{Rising}
 use Rattle.relief.specs.Pieces.{topmost, leadOf}
 use Rattle.relief.specs.Runs.{from}
 use Rattle.relief.proofs.Runs.{here, elsewhere}

@@ -4,14 +4,14 @@ use mathlib.Core.Path.{_≡_}
 use mathlib.Core.List.{List}
 use lib.ListN.{length}
 use lib.Dec.{eqb}
-use Rattle.net.specs.declared.Entry.{Entry}
-use Rattle.net.specs.declared.Refusal.the-variants.{OutOfRange, NoLegalPlacement, NoRoom}
-use Rattle.net.specs.declared.Judged.{Judged}
-use Rattle.net.specs.declared.Judged.the-variants as judge
-use Rattle.net.specs.Net.{Net}
-use Rattle.net.specs.Refusal.{numberOf, placeOf}
-use Rattle.net.specs.Complete.{Completes, LeastAdded, NoneCompletes}
-use Rattle.net.specs.Judge.{unless, thenJudge, judged}
+use Rattle.rules.specs.declared.Entry.{Entry}
+use Rattle.rules.specs.declared.Refusal.the-variants.{OutOfRange, NoLegalPlacement, NoRoom}
+use Rattle.rules.specs.declared.Judged.{Judged}
+use Rattle.rules.specs.declared.Judged.the-variants as judge
+use Rattle.rules.specs.Net.{Net}
+use Rattle.rules.specs.Refusal.{numberOf, placeOf}
+use Rattle.rules.specs.Complete.{Completes, LeastAdded, NoneCompletes}
+use Rattle.rules.specs.Judge.{unless, thenJudge, judged}
 use Rattle.checker.specs.Stands.{stood}
 use Rattle.columns.specs.Columns.{roomIn, Kept, Holds}
 use Rattle.finish.specs.declared.Finished.{Finished}

@@ -3,12 +3,12 @@ use Prim.Native.Nat.{ℕ, _≤_, _<_}
 use mathlib.Core.Path.{_≡_}
 use mathlib.Core.List.{List}
 use lib.ListN.{length, getD}
-use Rattle.net.specs.declared.Entry.{Entry}
-use Rattle.net.specs.declared.Refusal.the-variants.{NoRoom}
-use Rattle.net.specs.Figures.{mostWire, mostPlaces, mostEntries}
-use Rattle.net.specs.Net.{Net}
-use Rattle.net.specs.Load.{entries, offsetsOn}
-use Rattle.net.specs.Legal.{InOrder, start}
+use Rattle.rules.specs.declared.Entry.{Entry}
+use Rattle.rules.specs.declared.Refusal.the-variants.{NoRoom}
+use Rattle.rules.specs.Figures.{mostWire, mostPlaces, mostEntries}
+use Rattle.rules.specs.Net.{Net}
+use Rattle.rules.specs.Load.{entries, offsetsOn}
+use Rattle.rules.specs.Legal.{InOrder, start}
 use Rattle.columns.specs.Columns.{roomIn, Kept, Holds}
 use Rattle.relief.specs.Pieces.{leadOf}
 use Rattle.finish.specs.declared.Finished.{Finished}

@@ -3,9 +3,9 @@ use states::Cell;
 ghost use mathlib.Core.Path.{_≡_};
 ghost use Prim.Native.Nat.{_≤_};
 ghost use lib.ListN.{length};
-ghost use Rattle.net.specs.Net.{netAt};
-ghost use Rattle.net.specs.Load.{entries};
-ghost use Rattle.net.specs.Sound.{SoundNet};
+ghost use Rattle.rules.specs.Net.{netAt};
+ghost use Rattle.rules.specs.Load.{entries};
+ghost use Rattle.rules.specs.Sound.{SoundNet};
 ghost use Rattle.states.specs.States.{modelOf, limitsOf, CellOk};
 ghost use Rattle.adding.specs.Walks.{allAdded, Ready};
 ghost use Rattle.finish.specs.Given.{Stood, Fresh, Leads, Placed};
@@ -17,7 +17,7 @@ const PLACES: usize = 1025;
 // What it answers: the number of entries added, or why it added none.
 pub enum Finished {
     Added(usize),
-    Refused(net::Refusal),
+    Refused(rules::Refusal),
 }
 
 // Each wire's lead: one more than the offset of its topmost given entry, which comes last.
@@ -50,7 +50,7 @@ fn place(
 {
     let m = adding::count_all(c, wire, below, on, given, offsets);
     if columns::room(wires.len(), offs.len()) < m {
-        return Finished::Refused(net::Refusal::NoRoom(m));
+        return Finished::Refused(rules::Refusal::NoRoom(m));
     }
     adding::write_all(c, wire, below, on, given, offsets, wires, offs);
     Finished::Added(m as usize)
@@ -92,14 +92,14 @@ fn finish_sound(
         &mut links,
     );
     if !fits {
-        return Finished::Refused(net::Refusal::NoLegalPlacement);
+        return Finished::Refused(rules::Refusal::NoLegalPlacement);
     }
     place(c, wire, &below, &on, given, offsets, wires, offs)
 }
 
 // The net's own refusals, then 3 at 0 for type 1, then the placement's 7 and 10.
 fn judge_half(
-    limits: net::Limits,
+    limits: rules::Limits,
     parent: &[u16],
     wire: &[u32],
     kind: &[u8],
@@ -107,23 +107,23 @@ fn judge_half(
     polarity: &[u8],
     given: &[u16],
     offsets: &[u32],
-) -> net::Judged
+) -> rules::Judged
     ensures { λ r. ⌜ r ≡ halfJudged (netAt limits (parent .entry) (wire .entry) (kind .entry) (pin .entry) (polarity .entry)) (now (given .entry)) (now (offsets .entry)) ⌝ }
 {
     let own = net::judge(limits, parent, wire, kind, pin, polarity);
-    if let net::Judged::Refused(x) = own {
-        return net::Judged::Refused(x);
+    if let rules::Judged::Refused(x) = own {
+        return rules::Judged::Refused(x);
     }
     let repeater = limits.repeater;
     if repeater != 0 {
-        return net::Judged::Refused(net::Refusal::OutOfRange(0));
+        return rules::Judged::Refused(rules::Refusal::OutOfRange(0));
     }
     checker::entries_stand(wire, given, offsets)
 }
 
 // The entries that are added into the lent columns, or a refusal that leaves them as they came.
 pub fn finish(
-    limits: net::Limits,
+    limits: rules::Limits,
     parent: &[u16],
     wire: &[u32],
     kind: &[u8],
@@ -137,7 +137,7 @@ pub fn finish(
     ensures { λ r. ⌜ Answered (halfJudged (netAt limits (parent .entry) (wire .entry) (kind .entry) (pin .entry) (polarity .entry)) (now (given .entry)) (now (offsets .entry))) (netAt limits (parent .entry) (wire .entry) (kind .entry) (pin .entry) (polarity .entry)) (entries (now (given .entry)) (now (offsets .entry))) (now (wires .entry)) (now (offs .entry)) (now (wires .exit)) (now (offs .exit)) r ⌝ }
 {
     let verdict = judge_half(limits, parent, wire, kind, pin, polarity, given, offsets);
-    if let net::Judged::Refused(x) = verdict {
+    if let rules::Judged::Refused(x) = verdict {
         return Finished::Refused(x);
     }
     let c = states::cell_from(limits);

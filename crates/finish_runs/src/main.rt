@@ -10,8 +10,8 @@ use finish::Finished;
 use libc::STDERR_FILENO;
 use libc::STDIN_FILENO;
 use libc::STDOUT_FILENO;
-use net::Limits;
-use net::Refusal;
+use rules::Limits;
+use rules::Refusal;
 use net_file::NetRead;
 use placement_file::PlacementRead;
 

@@ -5,8 +5,8 @@ use mathlib.Core.List.{List, [], _∷_, _++_}
 use lib.ListN.{length, length-append}
 use native.Mathlib.Nat.{le-trans, le-refl}
 use native.Mathlib.Omega.{arith, min-cases}
-use Rattle.net.specs.Tree.{Hanging, none, sink, branch}
-use Rattle.net.specs.Load.{handsUp}
+use Rattle.rules.specs.Tree.{Hanging, none, sink, branch}
+use Rattle.rules.specs.Load.{handsUp}
 use Rattle.frontier.specs.Cell.{Kind, buf, inv, Cell, turn}
 use Rattle.frontier.specs.Plan.{Plan, count, GoodW, topW, load, Good, Par}
 use Rattle.frontier.specs.Spaced.{spread, steps}

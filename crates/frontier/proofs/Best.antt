@@ -2,7 +2,7 @@
 use Prim.Native.Nat.{ℕ, zero, suc, _+_, _-_, _*_, _≤_, min}
 use mathlib.Core.Path.{_≡_, refl, subst}
 use native.Mathlib.Omega.{arith}
-use Rattle.net.specs.Tree.{Hanging}
+use Rattle.rules.specs.Tree.{Hanging}
 use Rattle.frontier.specs.Cell.{Cell}
 use Rattle.frontier.specs.Plan.{Plan, count, load, Settled}
 use Rattle.frontier.specs.Frontier.{State, lost, has, mergeBy, merge, width, acc, node, root}

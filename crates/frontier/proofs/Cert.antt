@@ -3,10 +3,10 @@ use Prim.Native.Nat.{ℕ, _≤_}
 use mathlib.Core.Path.{_≡_}
 use lib.ListN.{length}
 use native.Mathlib.Omega.{arith}
-use Rattle.net.specs.Net.{Net}
-use Rattle.net.specs.Tree.{Hanging, none, sink, branch, tree}
-use Rattle.net.specs.Legal.{Legal}
-use Rattle.net.specs.Sound.{SoundNet}
+use Rattle.rules.specs.Net.{Net}
+use Rattle.rules.specs.Tree.{Hanging, none, sink, branch, tree}
+use Rattle.rules.specs.Legal.{Legal}
+use Rattle.rules.specs.Sound.{SoundNet}
 use Rattle.frontier.specs.Cell.{Cell, cellOf, turn}
 use Rattle.frontier.specs.Plan.{planOf, count, load, Good, Par}
 use Rattle.frontier.specs.Frontier.{has, root}

@@ -4,21 +4,21 @@ use mathlib.Core.Path.{_≡_, refl, sym, subst, _∙_}
 use mathlib.Core.List.{List}
 use lib.ListN.{length}
 use native.Mathlib.Omega.{arith}
-use Rattle.net.specs.declared.Entry.{Entry}
-use Rattle.net.specs.Net.{Net, places}
-use Rattle.net.specs.Tree.{tree}
-use Rattle.net.specs.Load.{offsetsOn}
-use Rattle.net.specs.Legal.{InOrder, start, Legal, Least, NoneLegal}
-use Rattle.net.specs.Sound.{SoundNet}
+use Rattle.rules.specs.declared.Entry.{Entry}
+use Rattle.rules.specs.Net.{Net, places}
+use Rattle.rules.specs.Tree.{tree}
+use Rattle.rules.specs.Load.{offsetsOn}
+use Rattle.rules.specs.Legal.{InOrder, start, Legal, Least, NoneLegal}
+use Rattle.rules.specs.Sound.{SoundNet}
 use Rattle.frontier.specs.Cell.{cellOf}
 use Rattle.frontier.specs.Plan.{planOf, count, Settled}
 use Rattle.frontier.specs.Frontier.{State, lost, has, root}
 use Rattle.frontier.specs.Placed.{placed}
-use Rattle.net.proofs.Counting.{at-most-once}
+use Rattle.rules.proofs.Counting.{at-most-once}
 use Rattle.frontier.proofs.Best.{hopeless}
 use Rattle.frontier.proofs.Offsets.{plan-ext, BestOffs, optimal-offs}
 use Rattle.frontier.proofs.Hangs.{tree-hangs, every-from}
-use Rattle.net.proofs.Order.{in-order-rises, entries-counted}
+use Rattle.rules.proofs.Order.{in-order-rises, entries-counted}
 use Rattle.frontier.proofs.Placing.{placed-offsets, wires-length, placed-in-order}
 use Rattle.frontier.proofs.Loads.{tree-count, good-if-fits, source-fits, rises-if-good, fits-if-good}
 use Rattle.frontier.proofs.Senses.{one-sense-if-par, par-if-one-sense}

@@ -6,19 +6,19 @@ use lib.ListN.{length}
 use native.Mathlib.Omega.{arith}
 use native.Mathlib.Decide.{ℕ-discrete}
 use borrow.Author.Tests.{eq-eqb, ne-eqb}
-use Rattle.net.specs.Net.{Net, places, wire, kind, pin}
-use Rattle.net.specs.Tree.{Hanging, none, sink, branch, under, tree}
-use Rattle.net.specs.Load.{drives, handedBy, loadBelow, drivenOn, joined, driven, sourceDrives}
-use Rattle.net.specs.Legal.{Each}
-use Rattle.net.specs.Sound.{SoundNet}
-use Rattle.net.specs.Sum.{sumOver, sumFrom}
-use Rattle.net.proofs.EachWireOnce.{each-wire-once}
+use Rattle.rules.specs.Net.{Net, places, wire, kind, pin}
+use Rattle.rules.specs.Tree.{Hanging, none, sink, branch, under, tree}
+use Rattle.rules.specs.Load.{drives, handedBy, loadBelow, drivenOn, joined, driven, sourceDrives}
+use Rattle.rules.specs.Legal.{Each}
+use Rattle.rules.specs.Sound.{SoundNet}
+use Rattle.rules.specs.Sum.{sumOver, sumFrom}
+use Rattle.rules.proofs.EachWireOnce.{each-wire-once}
 use Rattle.frontier.specs.Cell.{Cell, cellOf}
 use Rattle.frontier.specs.Plan.{planOf, count, GoodW, load, Good}
-use Rattle.net.proofs.Counting.{Every}
+use Rattle.rules.proofs.Counting.{Every}
 use Rattle.frontier.proofs.Hangs.{Hangs, tree-hangs, every-from, every-wire}
-use Rattle.net.proofs.Order.{Rising}
-use Rattle.net.proofs.EachLoad.{each-append, each-first, each-last, each-joined, joined-each}
+use Rattle.rules.proofs.Order.{Rising}
+use Rattle.rules.proofs.EachLoad.{each-append, each-first, each-last, each-joined, joined-each}
 
 -- ---- one wire
 module _ (τ : Cell) where

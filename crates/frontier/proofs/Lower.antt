@@ -5,8 +5,8 @@ use mathlib.Core.List.{List, [], _∷_}
 use lib.ListN.{length}
 use native.Mathlib.Nat.{div-add-mod', mod-lt, div-lt-iff-lt-mul, mul-le-mul-right, zero-add}
 use native.Mathlib.Omega.{arith}
-use Rattle.net.specs.Tree.{Hanging, none, sink, branch}
-use Rattle.net.specs.Load.{handsUp}
+use Rattle.rules.specs.Tree.{Hanging, none, sink, branch}
+use Rattle.rules.specs.Load.{handsUp}
 use Rattle.frontier.specs.Cell.{Kind, buf, inv, Cell, turn}
 use Rattle.frontier.specs.Plan.{Plan, count, GoodW, topW, load, Good, Par}
 use Rattle.frontier.specs.Frontier.{State, lost, has, Acc, fail, all, ifz, mergeBy, merge, width, atSurplus, ceil, req, T, second, cand, via, wire, conv, join, closeAt, close, leaf, acc, node}

@@ -5,13 +5,13 @@ use mathlib.Core.List.{List, [], _++_, append-nil}
 use lib.Dec.{eqb}
 use native.Mathlib.Omega.{arith}
 use borrow.Author.Tests.{eq-eqb, ne-eqb}
-use Rattle.net.specs.Choose.{pick}
-use Rattle.net.specs.Tree.{Hanging, none, sink, branch}
-use Rattle.net.specs.Sum.{sumOver}
+use Rattle.rules.specs.Choose.{pick}
+use Rattle.rules.specs.Tree.{Hanging, none, sink, branch}
+use Rattle.rules.specs.Sum.{sumOver}
 use Rattle.frontier.specs.Cell.{Cell}
 use Rattle.frontier.specs.Plan.{Plan, planOf, count, Settled}
 use Rattle.frontier.specs.Frontier.{has, root}
-use Rattle.net.proofs.Counting.{hit, hit-same, Every, every-hit}
+use Rattle.rules.proofs.Counting.{hit, hit-same, Every, every-hit}
 use Rattle.frontier.proofs.Best.{Best, optimal}
 
 abbrev pub Distinct : Hanging → Type 0

@@ -6,13 +6,13 @@ use lib.ListN.{length, length-append}
 use native.Mathlib.Omega.{arith}
 use native.Mathlib.Decide.{ℕ-discrete}
 use borrow.Author.Tests.{eq-eqb, ne-eqb}
-use Rattle.net.specs.declared.Entry.{Entry}
-use Rattle.net.specs.Net.{Net, places, wire}
-use Rattle.net.specs.Load.{offsetsOn}
-use Rattle.net.specs.Legal.{After, higher, further, InOrder, start}
-use Rattle.net.specs.Sum.{sumFrom}
+use Rattle.rules.specs.declared.Entry.{Entry}
+use Rattle.rules.specs.Net.{Net, places, wire}
+use Rattle.rules.specs.Load.{offsetsOn}
+use Rattle.rules.specs.Legal.{After, higher, further, InOrder, start}
+use Rattle.rules.specs.Sum.{sumFrom}
 use Rattle.frontier.specs.Placed.{onWire, onWires, placed}
-use Rattle.net.proofs.Order.{Rising}
+use Rattle.rules.proofs.Order.{Rising}
 
 on-same : (i : ℕ) (os : List ℕ) (rest : List Entry) → offsetsOn (onWire i os ++ rest) i ≡ os ++ offsetsOn rest i
 unfolding onWire offsetsOn

@@ -6,13 +6,13 @@ use lib.ListN.{length}
 use native.Mathlib.Omega.{arith}
 use native.Mathlib.Decide.{ℕ-discrete}
 use borrow.Author.Tests.{ne-eqb}
-use Rattle.net.specs.Net.{Net, places, parent, kind, polarity}
-use Rattle.net.specs.Tree.{Hanging, none, sink, branch, tree}
-use Rattle.net.specs.Legal.{onTheWay, inverters, OneSense}
-use Rattle.net.specs.Sound.{SoundNet}
+use Rattle.rules.specs.Net.{Net, places, parent, kind, polarity}
+use Rattle.rules.specs.Tree.{Hanging, none, sink, branch, tree}
+use Rattle.rules.specs.Legal.{onTheWay, inverters, OneSense}
+use Rattle.rules.specs.Sound.{SoundNet}
 use Rattle.frontier.specs.Cell.{Kind, buf, inv, kindOf, cellOf, turn}
 use Rattle.frontier.specs.Plan.{planOf, Par}
-use Rattle.net.proofs.Counting.{Every}
+use Rattle.rules.proofs.Counting.{Every}
 use Rattle.frontier.proofs.Hangs.{WireAt, Hangs, tree-hangs, every-from, every-wire}
 
 turn-turn : (κ : Kind) (p a b : ℕ) → turn κ (turn κ p a) b ≡ turn κ p (b + a)

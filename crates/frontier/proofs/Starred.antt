@@ -5,15 +5,15 @@ use mathlib.Core.List.{List, [], _∷_}
 use lib.ListN.{length, getD}
 use native.Mathlib.Omega.{arith}
 use native.Mathlib.Decide.{ℕ-discrete}
-use Rattle.net.specs.declared.Entry.{Entry}
-use Rattle.net.specs.declared.Judged.the-variants.{Sound}
-use Rattle.net.specs.Net.{Net}
-use Rattle.net.specs.Tree.{hanging, tree}
-use Rattle.net.specs.Load.{offsetsOn, handsUp}
-use Rattle.net.specs.Legal.{higher, further, Legal, Least, NoneLegal}
-use Rattle.net.specs.Judge.{judgeEach, children, judged}
-use Rattle.net.specs.Sound.{SoundNet}
-use Rattle.net.proofs.SoundSays.{sound-says}
+use Rattle.rules.specs.declared.Entry.{Entry}
+use Rattle.rules.specs.declared.Judged.the-variants.{Sound}
+use Rattle.rules.specs.Net.{Net}
+use Rattle.rules.specs.Tree.{hanging, tree}
+use Rattle.rules.specs.Load.{offsetsOn, handsUp}
+use Rattle.rules.specs.Legal.{higher, further, Legal, Least, NoneLegal}
+use Rattle.rules.specs.Judge.{judgeEach, children, judged}
+use Rattle.rules.specs.Sound.{SoundNet}
+use Rattle.rules.proofs.SoundSays.{sound-says}
 use Rattle.frontier.specs.Cell.{cellOf}
 use Rattle.frontier.specs.Frontier.{State, lost, has, root, ceil, req, second, cand, via, wire, conv, join, closeAt, close, leaf, acc}
 use Rattle.frontier.specs.Starred.{limits, plus, minus, netOf, on, AnyOffset, TwoOnOne, Carry, starred, AllSay, done, _and_}

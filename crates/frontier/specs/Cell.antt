@@ -1,6 +1,6 @@
 -- The one repeater type of a net, as the model has it.
 use Prim.Native.Nat.{ℕ, zero, suc, _+_, _-_, _%_}
-use Rattle.net.specs.declared.Limits.{Limits}
+use Rattle.rules.specs.declared.Limits.{Limits}
 
 pub data Kind : Type 0 where
   buf : Kind

@@ -1,7 +1,7 @@
 -- The frontier: for a node or a wire, and each polarity it may have, the least count and the least loads at that count and one more.
 -- Computed from the sinks up; at the source it is the net's least count.
 use Prim.Native.Nat.{ℕ, zero, suc, _+_, _-_, _*_, _/_, _%_, min, max}
-use Rattle.net.specs.Tree.{Hanging, none, sink, branch}
+use Rattle.rules.specs.Tree.{Hanging, none, sink, branch}
 use Rattle.frontier.specs.Cell.{Kind, buf, inv, Cell}
 
 -- what is kept of a wire or of a node: the least count m, the least load a with m, b with m + 1

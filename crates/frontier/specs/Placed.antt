@@ -1,8 +1,8 @@
 -- The placement, as a list, that has given offsets on each wire.
 use Prim.Native.Nat.{ℕ, zero, suc, _-_}
 use mathlib.Core.List.{List, [], _∷_, _++_}
-use Rattle.net.specs.declared.Entry.{Entry}
-use Rattle.net.specs.Net.{Net, places}
+use Rattle.rules.specs.declared.Entry.{Entry}
+use Rattle.rules.specs.Net.{Net, places}
 
 -- the entries of wire i
 unfoldable pub onWire : ℕ → List ℕ → List Entry

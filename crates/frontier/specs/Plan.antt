@@ -3,8 +3,8 @@ use Prim.Native.Nat.{ℕ, _+_, _-_, _≤_}
 use mathlib.Core.Path.{_≡_}
 use mathlib.Core.List.{List, [], _∷_}
 use lib.ListN.{length}
-use Rattle.net.specs.Tree.{Hanging, none, sink, branch}
-use Rattle.net.specs.Load.{handsUp}
+use Rattle.rules.specs.Tree.{Hanging, none, sink, branch}
+use Rattle.rules.specs.Load.{handsUp}
 use Rattle.frontier.specs.Cell.{Cell, turn}
 
 -- each wire's offsets, lowest first

@@ -3,13 +3,13 @@ use Prim.Native.Nat.{ℕ, _≤_}
 use mathlib.Core.Path.{_≡_}
 use mathlib.Core.List.{List, [], _∷_, map}
 use lib.ListN.{length}
-use Rattle.net.specs.declared.Limits.{Limits}
-use Rattle.net.specs.declared.Node.{Node}
-use Rattle.net.specs.declared.Entry.{Entry}
-use Rattle.net.specs.Net.{Net, net}
-use Rattle.net.specs.Load.{offsetsOn}
-use Rattle.net.specs.Legal.{Legal, Least, NoneLegal}
-use Rattle.net.specs.Ease.{Eases, carried}
+use Rattle.rules.specs.declared.Limits.{Limits}
+use Rattle.rules.specs.declared.Node.{Node}
+use Rattle.rules.specs.declared.Entry.{Entry}
+use Rattle.rules.specs.Net.{Net, net}
+use Rattle.rules.specs.Load.{offsetsOn}
+use Rattle.rules.specs.Legal.{Legal, Least, NoneLegal}
+use Rattle.rules.specs.Ease.{Eases, carried}
 
 abbrev pub limits : ℕ → ℕ → ℕ → Limits
 limits repeater cu cb = record { limit = cu; pin = cb; repeater = repeater }

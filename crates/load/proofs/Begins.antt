@@ -6,7 +6,7 @@ use native.Mathlib.Decide.{decLt}
 use lib.Dec.{ltb}
 use lib.ListN.{length, getD}
 use borrow.Author.Tests.{lt-ltb, le-ltb}
-use Rattle.net.specs.Choose.{pick}
+use Rattle.rules.specs.Choose.{pick}
 use Rattle.load.proofs.Order.{Rising}
 
 -- the entries before c are on wires before i, and no others are

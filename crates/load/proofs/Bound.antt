@@ -8,11 +8,11 @@ use native.Mathlib.Omega.{arith}
 use native.Mathlib.Decide.{ℕ-discrete}
 use lib.Dec.{eqb}
 use borrow.Author.Tests.{eq-eqb, ne-eqb}
-use Rattle.net.specs.Choose.{pick}
-use Rattle.net.specs.Net.{Net, places, parent, wire, kind, pin, polarity}
-use Rattle.net.specs.Tree.{Hanging, sink, branch, hanging}
-use Rattle.net.specs.Load.{handsUp, handedBy, loadBelow}
-use Rattle.net.specs.Sound.{SoundNet}
+use Rattle.rules.specs.Choose.{pick}
+use Rattle.rules.specs.Net.{Net, places, parent, wire, kind, pin, polarity}
+use Rattle.rules.specs.Tree.{Hanging, sink, branch, hanging}
+use Rattle.rules.specs.Load.{handsUp, handedBy, loadBelow}
+use Rattle.rules.specs.Sound.{SoundNet}
 
 -- 1,024 wires of 11,500,000
 abbrev pub mostLoad : ℕ

@@ -2,7 +2,7 @@
 use Prim.Native.Nat.{ℕ, zero, suc}
 use mathlib.Core.Path.{_≡_, refl}
 use lib.ListN.{getD, replicate, length-replicate}
-use Rattle.net.specs.Figures.{mostPlaces}
+use Rattle.rules.specs.Figures.{mostPlaces}
 use Rattle.load.specs.Tables.{Clear}
 
 pub none-in : (k i : ℕ) → getD (replicate {A = ℕ} k 0) i 0 ≡ 0

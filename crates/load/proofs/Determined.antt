@@ -6,11 +6,11 @@ use native.Mathlib.Omega.{arith}
 use native.Mathlib.Decide.{decLt}
 use lib.ListN.{length, getD}
 use lib.Seq.{ext-getD}
-use Rattle.net.specs.Net.{Net}
-use Rattle.net.specs.Load.{loadBelow, handedUp, driven}
+use Rattle.rules.specs.Net.{Net}
+use Rattle.rules.specs.Load.{loadBelow, handedUp, driven}
 use Rattle.load.specs.declared.Found.{Found}
 use Rattle.load.specs.declared.Found.the-variants.{At, Nothing}
-use Rattle.net.specs.Figures.{mostPlaces}
+use Rattle.rules.specs.Figures.{mostPlaces}
 use Rattle.load.specs.Next.{Next, NextIs}
 use Rattle.load.specs.Tables.{Span, childless, childed, Tables}
 use Rattle.load.specs.Asks.{AsksWire, AsksNode, AskedWire, AskedNode}

@@ -8,7 +8,7 @@ use native.Mathlib.Decide.{ℕ-discrete, decLt}
 use lib.ListN.{length, getD, length-append, List·getD-append}
 use lib.Seq.{slice, length-slice, getD-take, getD-drop, getD-append-add}
 use borrow.Author.Tests.{eq-eqb, ne-eqb}
-use Rattle.net.specs.Load.{entries, offsetsOn, drives, joined}
+use Rattle.rules.specs.Load.{entries, offsetsOn, drives, joined}
 use Rattle.load.proofs.Begins.{Begins}
 
 -- ---- the part of the list

@@ -4,10 +4,10 @@ use mathlib.Core.Path.{_≡_}
 use mathlib.Core.List.{List, [], _∷_}
 use native.Mathlib.Omega.{arith}
 use lib.ListN.{length, getD}
-use Rattle.net.specs.declared.Entry.{Entry}
-use Rattle.net.specs.Net.{Net}
-use Rattle.net.specs.Load.{entries}
-use Rattle.net.specs.Legal.{InOrder, After, higher, further, Stands}
+use Rattle.rules.specs.declared.Entry.{Entry}
+use Rattle.rules.specs.Net.{Net}
+use Rattle.rules.specs.Load.{entries}
+use Rattle.rules.specs.Legal.{InOrder, After, higher, further, Stands}
 
 -- "Entries stand in order of wire number"
 abbrev pub Rising : List ℕ → Type 0

@@ -12,11 +12,11 @@ use borrow.Author.Tests.{eq-eqb, ne-eqb}
 use lib.Dec.{eqb}
 use lib.ListN.{length, getD, set, length-set, take}
 use lib.Seq.{getD-set-same, getD-set-other, take-length}
-use Rattle.net.specs.Figures.{mostPlaces}
-use Rattle.net.specs.Choose.{pick}
-use Rattle.net.specs.Net.{Net, places, wire, kind, pin}
-use Rattle.net.specs.Load.{entries, offsetsOn, handsUp, handedUp, loadBelow}
-use Rattle.net.specs.Sound.{SoundNet}
+use Rattle.rules.specs.Figures.{mostPlaces}
+use Rattle.rules.specs.Choose.{pick}
+use Rattle.rules.specs.Net.{Net, places, wire, kind, pin}
+use Rattle.rules.specs.Load.{entries, offsetsOn, handsUp, handedUp, loadBelow}
+use Rattle.rules.specs.Sound.{SoundNet}
 use Rattle.load.specs.Tables.{Clear, ownPart, shutBy, Parts}
 use Rattle.load.proofs.Bound.{hands-up-most}
 use Rattle.load.proofs.Scan.{load-sink}

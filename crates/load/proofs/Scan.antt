@@ -7,12 +7,12 @@ use native.Mathlib.Omega.{arith}
 use native.Mathlib.Decide.{ℕ-discrete}
 use lib.Dec.{eqb}
 use borrow.Author.Tests.{eq-eqb, ne-eqb}
-use Rattle.net.specs.Choose.{pick}
-use Rattle.net.specs.Net.{Net, places, parent, wire, kind, pin, polarity}
-use Rattle.net.specs.Tree.{Hanging, none, sink, branch, hung, hanging, under}
-use Rattle.net.specs.Load.{handsUp, handedBy, loadBelow, handedUp}
-use Rattle.net.specs.Sound.{SoundNet}
-use Rattle.net.proofs.Hanging.{hanging-skip, hanging-take, hanging-end}
+use Rattle.rules.specs.Choose.{pick}
+use Rattle.rules.specs.Net.{Net, places, parent, wire, kind, pin, polarity}
+use Rattle.rules.specs.Tree.{Hanging, none, sink, branch, hung, hanging, under}
+use Rattle.rules.specs.Load.{handsUp, handedBy, loadBelow, handedUp}
+use Rattle.rules.specs.Sound.{SoundNet}
+use Rattle.rules.proofs.Hanging.{hanging-skip, hanging-take, hanging-end}
 use Rattle.load.specs.declared.Found.{Found}
 use Rattle.load.specs.Next.{Searched, NoneFrom, NoneBetween, Next, NextIs}
 use Rattle.load.proofs.Bound.{mostLoad, load-most}

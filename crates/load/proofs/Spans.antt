@@ -8,8 +8,8 @@ use lib.Dec.{eqb}
 use lib.ListN.{length, getD, set, length-set}
 use lib.Seq.{getD-set-same, getD-set-other}
 use borrow.Author.Tests.{eq-eqb, ne-eqb}
-use Rattle.net.specs.Figures.{mostPlaces}
-use Rattle.net.specs.Choose.{pick}
+use Rattle.rules.specs.Figures.{mostPlaces}
+use Rattle.rules.specs.Choose.{pick}
 use Rattle.load.specs.Next.{NoneFrom}
 use Rattle.load.specs.Tables.{Clear, Span, childless, childed, SpansTo}
 

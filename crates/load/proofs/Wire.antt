@@ -9,10 +9,10 @@ use lib.Dec.{eqb}
 use borrow.Author.Tests.{eq-eqb, ne-eqb}
 use lib.ListN.{length, getD}
 use lib.Seq.{slice, length-slice}
-use Rattle.net.specs.Figures.{mostWire}
-use Rattle.net.specs.Net.{Net, places, wire}
-use Rattle.net.specs.Load.{entries, offsetsOn, loadBelow, drivenOn, driven}
-use Rattle.net.specs.Legal.{start, Stands}
+use Rattle.rules.specs.Figures.{mostWire}
+use Rattle.rules.specs.Net.{Net, places, wire}
+use Rattle.rules.specs.Load.{entries, offsetsOn, loadBelow, drivenOn, driven}
+use Rattle.rules.specs.Legal.{start, Stands}
 use Rattle.load.specs.Asks.{Placed, Weighable, AsksNode, Stacked}
 use Rattle.load.proofs.Bound.{mostLoad, load-most}
 use Rattle.load.proofs.Order.{at, stands-at, further-up, rising}

@@ -5,11 +5,11 @@ use mathlib.Core.Bool.{Bool, true, false}
 use mathlib.Core.List.{List}
 use lib.ListN.{length, getD}
 use denote.Ref.{RefT, now}
-use Rattle.net.specs.Figures.{mostEntries}
-use Rattle.net.specs.Net.{Net, places, kind}
-use Rattle.net.specs.Load.{entries, offsetsOn}
-use Rattle.net.specs.Legal.{InOrder, start}
-use Rattle.net.specs.Sound.{SoundNet}
+use Rattle.rules.specs.Figures.{mostEntries}
+use Rattle.rules.specs.Net.{Net, places, kind}
+use Rattle.rules.specs.Load.{entries, offsetsOn}
+use Rattle.rules.specs.Legal.{InOrder, start}
+use Rattle.rules.specs.Sound.{SoundNet}
 use Rattle.load.specs.Tables.{Tables}
 
 -- the offsets that two lent columns give to each wire

@@ -3,7 +3,7 @@ use Prim.Native.Nat.{ℕ, suc, _≤_, _<_}
 use mathlib.Core.Path.{_≡_}
 use mathlib.Core.List.{List}
 use lib.ListN.{length, getD}
-use Rattle.net.specs.Figures.{mostPlaces}
+use Rattle.rules.specs.Figures.{mostPlaces}
 use Rattle.load.specs.declared.Found.{Found}
 use Rattle.load.specs.declared.Found.the-variants.{At, Nothing}
 

@@ -4,11 +4,11 @@ use mathlib.Core.Path.{_≡_}
 use mathlib.Core.List.{List, [], _∷_}
 use lib.Dec.{eqb}
 use lib.ListN.{length, getD}
-use Rattle.net.specs.Figures.{mostPlaces}
-use Rattle.net.specs.Choose.{pick}
-use Rattle.net.specs.Net.{Net, wire, kind, pin}
-use Rattle.net.specs.Load.{handsUp}
-use Rattle.net.specs.Sound.{SoundNet}
+use Rattle.rules.specs.Figures.{mostPlaces}
+use Rattle.rules.specs.Choose.{pick}
+use Rattle.rules.specs.Net.{Net, wire, kind, pin}
+use Rattle.rules.specs.Load.{handsUp}
+use Rattle.rules.specs.Sound.{SoundNet}
 use Rattle.load.specs.Next.{NoneFrom}
 
 -- a table before it is filled

@@ -1,15 +1,15 @@
 // What lies below a node, what a wire hands up, and what each entry drives, over lent columns.
-use net::Limits;
+use rules::Limits;
 ghost use mathlib.Core.Path.{_≡_};
 ghost use Prim.Native.Nat.{ℕ, _+_, _≤_, _<_};
 ghost use mathlib.Core.Bool.{false};
 ghost use mathlib.Core.List.{List, []};
 ghost use lib.Dec.{eqb};
 ghost use lib.ListN.{length, getD};
-ghost use Rattle.net.specs.Choose.{pick};
-ghost use Rattle.net.specs.Net.{Net, netAt};
-ghost use Rattle.net.specs.Load.{loadBelow, handedUp, driven, offsetsOn};
-ghost use Rattle.net.specs.Sound.{SoundNet};
+ghost use Rattle.rules.specs.Choose.{pick};
+ghost use Rattle.rules.specs.Net.{Net, netAt};
+ghost use Rattle.rules.specs.Load.{loadBelow, handedUp, driven, offsetsOn};
+ghost use Rattle.rules.specs.Sound.{SoundNet};
 ghost use Rattle.load.specs.Next.{Parents, Searched, NoneFrom, Passed, NextIs};
 ghost use Rattle.load.specs.Tables.{Clear, Spans, Parts, Tables};
 ghost use Rattle.load.specs.Asks.{offsetsAt, Placed, Stacked, AsksNode, AsksWire, AskedNode, AskedWire, AsksEntry};

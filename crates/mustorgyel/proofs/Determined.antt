@@ -4,7 +4,7 @@ use native.Mathlib.Omega.{arith}
 use mathlib.Core.Path.{_≡_, sym, ap, _∙_}
 use mathlib.Core.List.{List, _++_}
 use lib.ListN.{length}
-use Rattle.net.specs.Net.{Net}
+use Rattle.rules.specs.Net.{Net}
 use Rattle.frontier.proofs.LeastCount.{one-least}
 use Rattle.net_file.specs.NetFile.{Outcome, read, refused, netOf}
 use Rattle.answer.specs.Text.{leastLine, refusedLine, answerText}

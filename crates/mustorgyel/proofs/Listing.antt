@@ -7,18 +7,18 @@ use mathlib.Core.List.{List, [], _∷_, _++_}
 use lib.ListN.{length, length-append}
 use lib.Seq.{sets}
 use borrow.Author.Tests.{eq-eqb, le-leb}
-use Rattle.net.specs.declared.Judged.{Judged}
-use Rattle.net.specs.declared.Judged.the-variants.{Sound}
-use Rattle.net.specs.Figures.{mostEntries}
-use Rattle.net.specs.Net.{Net, places}
-use Rattle.net.specs.Load.{entries, offsetsOn, drives, drivenOn, joined, driven}
-use Rattle.net.specs.Legal.{start}
-use Rattle.net.specs.Judge.{thenJudge, judged}
-use Rattle.net.specs.Checked.{placedFrom, withinLimit, oneSense, placementJudged}
-use Rattle.net.specs.Sum.{sumFrom}
-use Rattle.net.specs.Load.{drivers, sourceDrives}
-use Rattle.net.proofs.Tests.{then-met}
-use Rattle.net.proofs.Order.{entries-counted}
+use Rattle.rules.specs.declared.Judged.{Judged}
+use Rattle.rules.specs.declared.Judged.the-variants.{Sound}
+use Rattle.rules.specs.Figures.{mostEntries}
+use Rattle.rules.specs.Net.{Net, places}
+use Rattle.rules.specs.Load.{entries, offsetsOn, drives, drivenOn, joined, driven}
+use Rattle.rules.specs.Legal.{start}
+use Rattle.rules.specs.Judge.{thenJudge, judged}
+use Rattle.rules.specs.Checked.{placedFrom, withinLimit, oneSense, placementJudged}
+use Rattle.rules.specs.Sum.{sumFrom}
+use Rattle.rules.specs.Load.{drivers, sourceDrives}
+use Rattle.rules.proofs.Tests.{then-met}
+use Rattle.rules.proofs.Order.{entries-counted}
 use Rattle.checker.specs.declared.Listed.{Listed}
 use Rattle.checker.specs.declared.Listed.the-variants.{Driven}
 use Rattle.checker.specs.Listing.{listJudged, ListedIs}

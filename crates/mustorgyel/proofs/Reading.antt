@@ -8,15 +8,15 @@ use lib.ListN.{length, take}
 use lib.Seq.{sets, length-sets}
 use lib.Dec.{ltb}
 use borrow.Author.Tests.{le-ltb}
-use Rattle.net.specs.declared.Limits.{Limits}
-use Rattle.net.specs.declared.Refusal.{Refusal}
-use Rattle.net.specs.declared.Refusal.the-variants.{NoRoom}
-use Rattle.net.specs.declared.Judged.the-variants.{Sound}
-use Rattle.net.specs.Figures.{mostPlaces}
-use Rattle.net.specs.Choose.{pick}
-use Rattle.net.specs.Net.{Net, places}
-use Rattle.net.specs.Judge.{judged}
-use Rattle.net.proofs.SoundSays.{sound-says}
+use Rattle.rules.specs.declared.Limits.{Limits}
+use Rattle.rules.specs.declared.Refusal.{Refusal}
+use Rattle.rules.specs.declared.Refusal.the-variants.{NoRoom}
+use Rattle.rules.specs.declared.Judged.the-variants.{Sound}
+use Rattle.rules.specs.Figures.{mostPlaces}
+use Rattle.rules.specs.Choose.{pick}
+use Rattle.rules.specs.Net.{Net, places}
+use Rattle.rules.specs.Judge.{judged}
+use Rattle.rules.proofs.SoundSays.{sound-says}
 use Rattle.field.proofs.Numbers.{AreBytes}
 use Rattle.net_file.specs.declared.NetRead.{NetRead}
 use Rattle.net_file.specs.declared.NetRead.the-variants.{Read, Refused as NotRead}

@@ -5,15 +5,15 @@ use mathlib.Core.Path.{_≡_, refl, sym, ap, _∙_, subst}
 use mathlib.Core.List.{List, [], _∷_, map}
 use lib.ListN.{length, take, length-map}
 use lib.Seq.{length-sets, length-take-le}
-use Rattle.net.specs.declared.Entry.{Entry}
-use Rattle.net.specs.declared.Refusal.{Refusal}
-use Rattle.net.specs.declared.Judged.{Judged}
-use Rattle.net.specs.declared.Judged.the-variants.{Sound}
-use Rattle.net.specs.Figures.{mostEntries}
-use Rattle.net.specs.Net.{Net}
-use Rattle.net.specs.Load.{entries}
-use Rattle.net.specs.Legal.{Legal, Least}
-use Rattle.net.specs.Judge.{judged}
+use Rattle.rules.specs.declared.Entry.{Entry}
+use Rattle.rules.specs.declared.Refusal.{Refusal}
+use Rattle.rules.specs.declared.Judged.{Judged}
+use Rattle.rules.specs.declared.Judged.the-variants.{Sound}
+use Rattle.rules.specs.Figures.{mostEntries}
+use Rattle.rules.specs.Net.{Net}
+use Rattle.rules.specs.Load.{entries}
+use Rattle.rules.specs.Legal.{Legal, Least}
+use Rattle.rules.specs.Judge.{judged}
 use Rattle.solver.specs.declared.Solved.{Solved}
 use Rattle.solver.specs.declared.Solved.the-variants.{Placed, Refused}
 use Rattle.solver.specs.Answer.{Outcome, none, full, placed, Answered}

@@ -3,14 +3,14 @@ use Prim.Native.Nat.{ℕ, _+_, _*_, _≤_, _<_}
 use mathlib.Core.Path.{_≡_}
 use mathlib.Core.List.{List}
 use lib.ListN.{length, take}
-use Rattle.net.specs.declared.Refusal.{Refusal}
-use Rattle.net.specs.declared.Refusal.the-variants.{NoLegalPlacement, NoRoom}
-use Rattle.net.specs.declared.Judged.the-variants.{Sound}
-use Rattle.net.specs.Figures.{mostEntries}
-use Rattle.net.specs.Net.{Net}
-use Rattle.net.specs.Load.{entries, offsetsOn, driven, sourceDrives}
-use Rattle.net.specs.Legal.{Legal, Least, NoneLegal}
-use Rattle.net.specs.Judge.{judged}
+use Rattle.rules.specs.declared.Refusal.{Refusal}
+use Rattle.rules.specs.declared.Refusal.the-variants.{NoLegalPlacement, NoRoom}
+use Rattle.rules.specs.declared.Judged.the-variants.{Sound}
+use Rattle.rules.specs.Figures.{mostEntries}
+use Rattle.rules.specs.Net.{Net}
+use Rattle.rules.specs.Load.{entries, offsetsOn, driven, sourceDrives}
+use Rattle.rules.specs.Legal.{Legal, Least, NoneLegal}
+use Rattle.rules.specs.Judge.{judged}
 use Rattle.net_file.specs.NetFile.{netOf, read, refused}
 use Rattle.answer.specs.Text.{refusedLine, answerText}
 

@@ -2,16 +2,16 @@
 use checker::Listed;
 use libc::STDIN_FILENO;
 use libc::STDOUT_FILENO;
-use net::Limits;
-use net::Refusal;
+use rules::Limits;
+use rules::Refusal;
 use net_file::NetRead;
 use solver::Solved;
 ghost use mathlib.Core.Path.{_≡_};
 ghost use Prim.Native.Nat.{_≤_};
 ghost use lib.ListN.{length, take};
-ghost use Rattle.net.specs.declared.Judged.the-variants.{Sound};
-ghost use Rattle.net.specs.Net.{netAt};
-ghost use Rattle.net.specs.Judge.{judged};
+ghost use Rattle.rules.specs.declared.Judged.the-variants.{Sound};
+ghost use Rattle.rules.specs.Net.{netAt};
+ghost use Rattle.rules.specs.Judge.{judged};
 ghost use Rattle.answer.specs.Text.{refusedLine};
 ghost use Rattle.mustorgyel.specs.Printed.{told, PrintsNet, Prints, Shows, Given, mostText};
 

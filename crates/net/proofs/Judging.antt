@@ -9,17 +9,17 @@ use lib.Seq.{getD-set-same, getD-set-other}
 use lib.Dec.{eqb, ltb, leb}
 use borrow.Author.Tests.{eq-eqb, ne-eqb, eqb-true, ltb-true, leb-true}
 use mathlib.Core.Bool.{true, false}
-use Rattle.net.specs.Figures.{mostPlaces}
-use Rattle.net.specs.declared.Refusal.the-variants.{OutOfRange, WrongColumns}
-use Rattle.net.proofs.Tests.{both-met}
-use Rattle.net.proofs.Each.{each-same}
-use Rattle.net.specs.declared.Refusal.{Refusal}
-use Rattle.net.specs.declared.Judged.{Judged}
-use Rattle.net.specs.declared.Judged.the-variants.{Sound, Refused}
-use Rattle.net.specs.declared.Node.{Node}
-use Rattle.net.specs.Net.{Net, places, parent, kind, node}
-use Rattle.net.specs.Judge.{thenJudge, columnsFit, limitsInRange, sourceClear, children, admitted, nodeJudged, nodesJudged, childedBy, childed, judged}
-use Rattle.net.proofs.SoundSays.{NodeSound, node-sound}
+use Rattle.rules.specs.Figures.{mostPlaces}
+use Rattle.rules.specs.declared.Refusal.the-variants.{OutOfRange, WrongColumns}
+use Rattle.rules.proofs.Tests.{both-met}
+use Rattle.rules.proofs.Each.{each-same}
+use Rattle.rules.specs.declared.Refusal.{Refusal}
+use Rattle.rules.specs.declared.Judged.{Judged}
+use Rattle.rules.specs.declared.Judged.the-variants.{Sound, Refused}
+use Rattle.rules.specs.declared.Node.{Node}
+use Rattle.rules.specs.Net.{Net, places, parent, kind, node}
+use Rattle.rules.specs.Judge.{thenJudge, columnsFit, limitsInRange, sourceClear, children, admitted, nodeJudged, nodesJudged, childedBy, childed, judged}
+use Rattle.rules.proofs.SoundSays.{NodeSound, node-sound}
 use Rattle.net.specs.Counted.{Level, Tallied, NodesJudged}
 
 -- no child is counted yet

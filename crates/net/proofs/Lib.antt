@@ -1,16 +1,2 @@
-pub mod Hanging
-pub mod EachWireOnce
-pub mod Tests
-pub mod Each
-pub mod SoundSays
 pub mod Judging
-pub mod Counting
-pub mod Order
-pub mod EachLoad
-pub mod EaseKeepsLegal
-pub mod Easing
-pub mod Completing
-pub mod Containing
-pub mod Examples
 pub mod Determined
-pub mod Refusals

@@ -5,13 +5,13 @@ use mathlib.Core.Bool.{Bool}
 use mathlib.Core.List.{List}
 use lib.ListN.{length, getD}
 use lib.Dec.{eqb, ltb, leb}
-use Rattle.net.specs.declared.Limits.{Limits}
-use Rattle.net.specs.declared.Judged.{Judged}
-use Rattle.net.specs.declared.Judged.the-variants.{Sound}
-use Rattle.net.specs.Figures.{mostPlaces}
-use Rattle.net.specs.Choose.{both}
-use Rattle.net.specs.Net.{Net, places}
-use Rattle.net.specs.Judge.{children, nodesJudged}
+use Rattle.rules.specs.declared.Limits.{Limits}
+use Rattle.rules.specs.declared.Judged.{Judged}
+use Rattle.rules.specs.declared.Judged.the-variants.{Sound}
+use Rattle.rules.specs.Figures.{mostPlaces}
+use Rattle.rules.specs.Choose.{both}
+use Rattle.rules.specs.Net.{Net, places}
+use Rattle.rules.specs.Judge.{children, nodesJudged}
 
 -- limits, for what is said of the columns alone
 abbrev pub unlimited : Limits

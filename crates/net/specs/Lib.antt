@@ -1,14 +1,1 @@
-pub mod Figures
-pub mod Choose
-pub mod Refusal
-pub mod Net
-pub mod Tree
-pub mod Load
-pub mod Legal
-pub mod Complete
-pub mod Judge
-pub mod Checked
-pub mod Ease
-pub mod Sound
-pub mod Sum
 pub mod Counted

@@ -1,59 +1,18 @@
-// What a net is, and the judge of its columns: the call that every other call makes first.
+// The judge of a net's columns: the call that every other call makes first.
+use rules::Judged;
+use rules::Limits;
+use rules::Node;
+use rules::Refusal;
 ghost use mathlib.Core.Path.{_≡_};
 ghost use Prim.Native.Nat.{ℕ, suc, _+_, _-_, _<_, _≤_};
 ghost use mathlib.Core.List.{List};
 ghost use lib.ListN.{length, getD, set};
 ghost use lib.Dec.{eqb, ltb, leb};
-ghost use Rattle.net.specs.Refusal.{numberOf, placeOf};
-ghost use Rattle.net.specs.Choose.{both};
-ghost use Rattle.net.specs.Net.{netAt, node};
-ghost use Rattle.net.specs.Judge.{limitsInRange, sourceClear, endInRange, nodeInRange, parentFits, admitted, hasChild, childedBy, judged};
+ghost use Rattle.rules.specs.Refusal.{numberOf, placeOf};
+ghost use Rattle.rules.specs.Choose.{both};
+ghost use Rattle.rules.specs.Net.{netAt, node};
+ghost use Rattle.rules.specs.Judge.{limitsInRange, sourceClear, endInRange, nodeInRange, parentFits, admitted, hasChild, childedBy, judged};
 ghost use Rattle.net.specs.Counted.{unlimited, sameLengths, Within, Level, Tallied, NodesJudged};
-
-// The limits of a net: C_U, C_b, and 0 for a buffer or 1 for an inverter.
-pub struct Limits {
-    pub limit: u32,
-    pub pin: u32,
-    pub repeater: u8,
-}
-
-// A node as the columns hold it: kind is 0 for a branch point and 1 for a sink.
-pub struct Node {
-    pub parent: u16,
-    pub wire: u32,
-    pub kind: u8,
-    pub pin: u32,
-    pub polarity: u8,
-}
-
-// An entry of a placement: a wire, and the units of that wire below the repeater.
-pub struct Entry {
-    pub wire: u16,
-    pub offset: u32,
-}
-
-// Why a call refuses, in the order of document 01's table. Each holds the place.
-pub enum Refusal {
-    FileEnds(usize),
-    NotDue(usize),
-    OutOfRange(usize),
-    WrongParent(usize),
-    Childless(usize),
-    BytesAfterEnd(usize),
-    WrongColumns,
-    NoLegalPlacement,
-    NoRoom(u64),
-    Misplaced(usize),
-    Overloaded(usize),
-    WrongParity(usize),
-    NotEased(usize),
-}
-
-// What a judge says: nothing is wrong, or the first refusal.
-pub enum Judged {
-    Sound,
-    Refused(Refusal),
-}
 
 // Document 01's number of a refusal.
 pub fn number(r: Refusal) -> u32

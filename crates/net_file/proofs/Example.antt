@@ -3,9 +3,9 @@ use Prim.Native.Nat.{ℕ}
 use mathlib.Core.Path.{_≡_, refl}
 use mathlib.Core.List.{List, [], _∷_, _++_}
 use lib.ListN.{take, drop}
-use Rattle.net.specs.declared.Refusal.the-variants.{FileEnds, Childless, BytesAfterEnd}
-use Rattle.net.specs.Net.{Net, net}
-use Rattle.net.specs.Judge.{judgeEach, children}
+use Rattle.rules.specs.declared.Refusal.the-variants.{FileEnds, Childless, BytesAfterEnd}
+use Rattle.rules.specs.Net.{Net, net}
+use Rattle.rules.specs.Judge.{judgeEach, children}
 use Rattle.field.specs.Format.{fieldIn}
 use Rattle.net_file.specs.NetFile.{takenAt, fieldsFrom, nodesOf, fieldsJudged, read, refused, netFrom, netOf, bytesFrom, netBytes}
 

@@ -6,9 +6,9 @@ use native.Mathlib.Numerals.{add-one}
 use mathlib.Core.Path.{_≡_, refl, sym, ap, _∙_}
 use mathlib.Core.List.{List, [], _∷_}
 use lib.ListN.{length, length-set, replicate, length-replicate}
-use Rattle.net.specs.declared.Node.{Node}
-use Rattle.net.specs.Net.{Net}
-use Rattle.net.specs.Figures.{mostPlaces}
+use Rattle.rules.specs.declared.Node.{Node}
+use Rattle.rules.specs.Net.{Net}
+use Rattle.rules.specs.Figures.{mostPlaces}
 use Rattle.net.specs.Counted.{unlimited, Within}
 use Rattle.net_file.specs.declared.Taken.{Taken}
 use Rattle.net_file.specs.declared.Taken.the-variants.{Node as OneNode, End as Last}

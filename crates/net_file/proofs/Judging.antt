@@ -11,19 +11,19 @@ use lib.ListN.{length, getD, set, drop, replicate, length-set, length-replicate}
 use lib.Seq.{getD-set-same, getD-set-other}
 use lib.Dec.{leb}
 use borrow.Author.Tests.{le-ltb}
-use Rattle.net.specs.declared.Limits.{Limits}
-use Rattle.net.specs.declared.Node.{Node}
-use Rattle.net.specs.declared.Refusal.{Refusal}
-use Rattle.net.specs.declared.Refusal.the-variants.{OutOfRange, WrongParent, BytesAfterEnd}
-use Rattle.net.specs.declared.Judged.{Judged}
-use Rattle.net.specs.declared.Judged.the-variants.{Sound, Refused as Unsound}
-use Rattle.net.specs.Figures.{mostNodes, mostPlaces}
-use Rattle.net.specs.Net.{Net, places, parent, kind, node}
-use Rattle.net.specs.Judge.{unless, thenJudge, judgeEach, nodeInRange, parentFits, admitted, nodeJudged, hasChild, children, childedBy, childed}
+use Rattle.rules.specs.declared.Limits.{Limits}
+use Rattle.rules.specs.declared.Node.{Node}
+use Rattle.rules.specs.declared.Refusal.{Refusal}
+use Rattle.rules.specs.declared.Refusal.the-variants.{OutOfRange, WrongParent, BytesAfterEnd}
+use Rattle.rules.specs.declared.Judged.{Judged}
+use Rattle.rules.specs.declared.Judged.the-variants.{Sound, Refused as Unsound}
+use Rattle.rules.specs.Figures.{mostNodes, mostPlaces}
+use Rattle.rules.specs.Net.{Net, places, parent, kind, node}
+use Rattle.rules.specs.Judge.{unless, thenJudge, judgeEach, nodeInRange, parentFits, admitted, nodeJudged, hasChild, children, childedBy, childed}
 use Rattle.net.specs.Counted.{Tallied}
-use Rattle.net.proofs.Tests.{never, unless-met, then-met}
-use Rattle.net.proofs.Each.{each-same, each-met}
-use Rattle.net.proofs.SoundSays.{Fits, parent-fits, NodeSound, node-sound}
+use Rattle.rules.proofs.Tests.{never, unless-met, then-met}
+use Rattle.rules.proofs.Each.{each-same, each-met}
+use Rattle.rules.proofs.SoundSays.{Fits, parent-fits, NodeSound, node-sound}
 use Rattle.net.proofs.Judging.{tallied-start, tallied-after}
 use Rattle.net_file.specs.declared.Taken.{Taken}
 use Rattle.net_file.specs.declared.Taken.the-variants.{Node as OneNode, End as Last, Refused as Neither}

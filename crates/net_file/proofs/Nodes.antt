@@ -5,9 +5,9 @@ use mathlib.Core.Path.{_≡_, sym, ap, _∙_}
 use mathlib.Core.List.{List, [], _∷_}
 use lib.ListN.{length, getD, drop, length-drop, length-map, List·getD-map}
 use lib.Seq.{drop-cons}
-use Rattle.net.specs.declared.Limits.{Limits}
-use Rattle.net.specs.declared.Node.{Node}
-use Rattle.net.specs.Net.{places, node}
+use Rattle.rules.specs.declared.Limits.{Limits}
+use Rattle.rules.specs.declared.Node.{Node}
+use Rattle.rules.specs.Net.{places, node}
 use Rattle.net_file.specs.NetFile.{columnsOf, source}
 
 pub node-is : (l : Limits) (ds : List Node) (i : ℕ) → node (columnsOf l ds) i ≡ getD ds i source

@@ -9,16 +9,16 @@ use lib.ListN.{length, getD, take, drop, length-map, drop-of-length-le}
 use lib.Seq.{sets, sets-eq, take-append-seam}
 use lib.Dec.{ltb, leb}
 use borrow.Author.Tests.{eq-eqb, lt-ltb, le-ltb, le-leb, leb-true, ltb-false}
-use Rattle.net.specs.declared.Limits.{Limits}
-use Rattle.net.specs.declared.Node.{Node}
-use Rattle.net.specs.declared.Refusal.the-variants.{OutOfRange, BytesAfterEnd, NoRoom}
-use Rattle.net.specs.declared.Judged.{Judged}
-use Rattle.net.specs.declared.Judged.the-variants.{Sound}
-use Rattle.net.specs.Figures.{mostNodes, mostPlaces}
-use Rattle.net.specs.Choose.{pick}
-use Rattle.net.specs.Net.{Net, places, parent, kind, node}
-use Rattle.net.specs.Judge.{unless, limitsInRange, columnsFit, sourceClear, nodeJudged, nodesJudged, judged}
-use Rattle.net.proofs.Tests.{never, unless-met, then-met}
+use Rattle.rules.specs.declared.Limits.{Limits}
+use Rattle.rules.specs.declared.Node.{Node}
+use Rattle.rules.specs.declared.Refusal.the-variants.{OutOfRange, BytesAfterEnd, NoRoom}
+use Rattle.rules.specs.declared.Judged.{Judged}
+use Rattle.rules.specs.declared.Judged.the-variants.{Sound}
+use Rattle.rules.specs.Figures.{mostNodes, mostPlaces}
+use Rattle.rules.specs.Choose.{pick}
+use Rattle.rules.specs.Net.{Net, places, parent, kind, node}
+use Rattle.rules.specs.Judge.{unless, limitsInRange, columnsFit, sourceClear, nodeJudged, nodesJudged, judged}
+use Rattle.rules.proofs.Tests.{never, unless-met, then-met}
 use Rattle.field.specs.declared.Value.{Value}
 use Rattle.field.specs.declared.Value.the-variants.{Limits as LimitsField, Branch, Sink, Count, Entry, End}
 use Rattle.field.specs.declared.Field.{Field}

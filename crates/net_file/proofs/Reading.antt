@@ -6,15 +6,15 @@ use mathlib.Core.List.{List, _∷_, map}
 use lib.ListN.{length, getD, drop, replicate, length-map, length-replicate, List·getD-append, drop-of-length-le}
 use lib.Seq.{sets, sets-eq, drop-cons}
 use borrow.Author.Tests.{lt-ltb, le-ltb}
-use Rattle.net.specs.declared.Limits.{Limits}
-use Rattle.net.specs.declared.Node.{Node}
-use Rattle.net.specs.declared.Refusal.{Refusal}
-use Rattle.net.specs.declared.Refusal.the-variants.{NoRoom}
-use Rattle.net.specs.declared.Judged.{Judged}
-use Rattle.net.specs.declared.Judged.the-variants.{Sound, Refused as Unsound}
-use Rattle.net.proofs.Tests.{never}
-use Rattle.net.specs.Figures.{mostNodes, mostPlaces}
-use Rattle.net.specs.Net.{Net, places, node}
+use Rattle.rules.specs.declared.Limits.{Limits}
+use Rattle.rules.specs.declared.Node.{Node}
+use Rattle.rules.specs.declared.Refusal.{Refusal}
+use Rattle.rules.specs.declared.Refusal.the-variants.{NoRoom}
+use Rattle.rules.specs.declared.Judged.{Judged}
+use Rattle.rules.specs.declared.Judged.the-variants.{Sound, Refused as Unsound}
+use Rattle.rules.proofs.Tests.{never}
+use Rattle.rules.specs.Figures.{mostNodes, mostPlaces}
+use Rattle.rules.specs.Net.{Net, places, node}
 use Rattle.net.specs.Counted.{unlimited}
 use Rattle.field.specs.Format.{dueAt}
 use Rattle.net_file.specs.declared.Front.{Front}

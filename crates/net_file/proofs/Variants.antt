@@ -4,7 +4,7 @@ use mathlib.Core.Path.{_≡_, refl}
 use mathlib.Core.List.{[], _∷_}
 use types.Run.{OneOf, miss}
 use denote.Enum.Declared.{tagOf}
-use Rattle.net.specs.declared.Refusal.the-variants.{NotDue}
+use Rattle.rules.specs.declared.Refusal.the-variants.{NotDue}
 use Rattle.field.proofs.Value.{the-type}
 use Rattle.field.specs.declared.Value.{Value}
 use Rattle.field.specs.declared.Value.the-variants.{Limits, Branch, Sink, Count, Entry, End}

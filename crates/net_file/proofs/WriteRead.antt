@@ -9,19 +9,19 @@ use lib.ListN.{length, getD, take, drop, length-drop}
 use lib.Seq.{sets, drop-cons, take-all}
 use lib.Dec.{eqb, ltb, leb}
 use borrow.Author.Tests.{eqb-true, ltb-false, le-ltb, le-leb}
-use Rattle.net.specs.declared.Limits.{Limits}
-use Rattle.net.specs.declared.Node.{Node}
-use Rattle.net.specs.declared.Refusal.the-variants.{OutOfRange, WrongColumns, NoRoom}
-use Rattle.net.specs.declared.Judged.{Judged}
-use Rattle.net.specs.declared.Judged.the-variants.{Sound, Refused as Unsound}
-use Rattle.net.specs.Figures.{mostWire, mostPin}
-use Rattle.net.specs.Choose.{pick, both}
-use Rattle.net.specs.Net.{Net, places, parent, wire, kind, pin, polarity, node}
-use Rattle.net.specs.Judge.{unless, limitsInRange, columnsFit, sourceClear, endInRange, children, nodeJudged, nodesJudged, childed, judged}
-use Rattle.net.specs.Sound.{SoundNet}
-use Rattle.net.proofs.Tests.{never, both-met, unless-met, then-met}
-use Rattle.net.proofs.Each.{each-met}
-use Rattle.net.proofs.SoundSays.{sound-says}
+use Rattle.rules.specs.declared.Limits.{Limits}
+use Rattle.rules.specs.declared.Node.{Node}
+use Rattle.rules.specs.declared.Refusal.the-variants.{OutOfRange, WrongColumns, NoRoom}
+use Rattle.rules.specs.declared.Judged.{Judged}
+use Rattle.rules.specs.declared.Judged.the-variants.{Sound, Refused as Unsound}
+use Rattle.rules.specs.Figures.{mostWire, mostPin}
+use Rattle.rules.specs.Choose.{pick, both}
+use Rattle.rules.specs.Net.{Net, places, parent, wire, kind, pin, polarity, node}
+use Rattle.rules.specs.Judge.{unless, limitsInRange, columnsFit, sourceClear, endInRange, children, nodeJudged, nodesJudged, childed, judged}
+use Rattle.rules.specs.Sound.{SoundNet}
+use Rattle.rules.proofs.Tests.{never, both-met, unless-met, then-met}
+use Rattle.rules.proofs.Each.{each-met}
+use Rattle.rules.proofs.SoundSays.{sound-says}
 use Rattle.field.specs.declared.Value.the-variants.{Limits as LimitsField, Branch, Sink, End}
 use Rattle.field.specs.declared.FieldRead.{FieldRead}
 use Rattle.field.specs.Format.{dueIn, dueAt, bytesOf, Fitting}

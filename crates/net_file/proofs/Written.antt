@@ -6,15 +6,15 @@ use mathlib.Core.List.{List}
 use lib.ListN.{length}
 use lib.Seq.{sets}
 use borrow.Author.Tests.{lt-ltb, le-ltb}
-use Rattle.net.specs.declared.Limits.{Limits}
-use Rattle.net.specs.declared.Refusal.{Refusal}
-use Rattle.net.specs.declared.Refusal.the-variants.{NoRoom}
-use Rattle.net.specs.declared.Judged.the-variants.{Sound, Refused as Unsound}
-use Rattle.net.specs.Net.{Net, net}
-use Rattle.net.specs.Judge.{judged}
-use Rattle.net.specs.Sound.{SoundNet}
+use Rattle.rules.specs.declared.Limits.{Limits}
+use Rattle.rules.specs.declared.Refusal.{Refusal}
+use Rattle.rules.specs.declared.Refusal.the-variants.{NoRoom}
+use Rattle.rules.specs.declared.Judged.the-variants.{Sound, Refused as Unsound}
+use Rattle.rules.specs.Net.{Net, net}
+use Rattle.rules.specs.Judge.{judged}
+use Rattle.rules.specs.Sound.{SoundNet}
 use Rattle.net.specs.Counted.{unlimited, Level}
-use Rattle.net.proofs.SoundSays.{sound-says}
+use Rattle.rules.proofs.SoundSays.{sound-says}
 use Rattle.net_file.specs.declared.NetWrote.the-variants.{Written, Refused as NotWritten}
 use Rattle.net_file.specs.NetFile.{netBytes, WroteNet}
 

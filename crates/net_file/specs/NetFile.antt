@@ -6,17 +6,17 @@ use mathlib.Core.List.{List, [], _∷_, _++_, map}
 use lib.ListN.{length, take}
 use lib.Seq.{sets}
 use lib.Dec.{eqb, ltb, leb}
-use Rattle.net.specs.declared.Limits.{Limits}
-use Rattle.net.specs.declared.Node.{Node}
-use Rattle.net.specs.declared.Refusal.{Refusal}
-use Rattle.net.specs.declared.Refusal.the-variants.{NotDue, OutOfRange, WrongParent, BytesAfterEnd, NoRoom}
-use Rattle.net.specs.declared.Judged.{Judged}
-use Rattle.net.specs.declared.Judged.the-variants.{Sound, Refused as Unsound}
-use Rattle.net.specs.Figures.{mostPlaces}
-use Rattle.net.specs.Choose.{pick}
-use Rattle.net.specs.Refusal.{numberOf, placeOf}
-use Rattle.net.specs.Net.{Net, net, places, node}
-use Rattle.net.specs.Judge.{unless, thenJudge, limitsInRange, nodeJudged, childed, judged}
+use Rattle.rules.specs.declared.Limits.{Limits}
+use Rattle.rules.specs.declared.Node.{Node}
+use Rattle.rules.specs.declared.Refusal.{Refusal}
+use Rattle.rules.specs.declared.Refusal.the-variants.{NotDue, OutOfRange, WrongParent, BytesAfterEnd, NoRoom}
+use Rattle.rules.specs.declared.Judged.{Judged}
+use Rattle.rules.specs.declared.Judged.the-variants.{Sound, Refused as Unsound}
+use Rattle.rules.specs.Figures.{mostPlaces}
+use Rattle.rules.specs.Choose.{pick}
+use Rattle.rules.specs.Refusal.{numberOf, placeOf}
+use Rattle.rules.specs.Net.{Net, net, places, node}
+use Rattle.rules.specs.Judge.{unless, thenJudge, limitsInRange, nodeJudged, childed, judged}
 use Rattle.field.specs.declared.Value.{Value}
 use Rattle.field.specs.declared.Value.the-variants.{Limits as LimitsField, Branch, Sink, Count, Entry, End}
 use Rattle.field.specs.declared.FieldRead.{FieldRead}

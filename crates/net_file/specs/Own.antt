@@ -3,9 +3,9 @@ use Prim.Native.Nat.{ℕ, _≤_}
 use mathlib.Core.Path.{_≡_}
 use mathlib.Core.List.{List}
 use lib.ListN.{length, replicate}
-use Rattle.net.specs.declared.Limits.{Limits}
-use Rattle.net.specs.Figures.{mostPlaces}
-use Rattle.net.specs.Net.{Net, net, places}
+use Rattle.rules.specs.declared.Limits.{Limits}
+use Rattle.rules.specs.Figures.{mostPlaces}
+use Rattle.rules.specs.Net.{Net, net, places}
 use Rattle.net.specs.Counted.{unlimited}
 use Rattle.net_file.specs.declared.NetRead.{NetRead}
 use Rattle.net_file.specs.declared.NetRead.the-variants.{Read, Refused as NotRead}

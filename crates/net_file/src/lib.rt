@@ -5,8 +5,8 @@ ghost use Prim.Native.Nat.{_+_, _-_, _<_, _≤_, _^_, min};
 ghost use lib.ListN.{length, getD};
 ghost use lib.Dec.{leb};
 ghost use lib.Seq.{sets};
-ghost use Rattle.net.specs.Net.{netAt, node};
-ghost use Rattle.net.specs.Judge.{unless, thenJudge, childedBy};
+ghost use Rattle.rules.specs.Net.{netAt, node};
+ghost use Rattle.rules.specs.Judge.{unless, thenJudge, childedBy};
 ghost use Rattle.net.specs.Counted.{unlimited, Within, Level};
 ghost use Rattle.field.specs.Format.{cutAt, dueAt};
 ghost use Rattle.field.specs.Listed.{listed};
@@ -16,10 +16,10 @@ use field::DueRead;
 use field::Field;
 use field::FieldRead;
 use field::Value;
-use net::Judged;
-use net::Limits;
-use net::Node;
-use net::Refusal;
+use rules::Judged;
+use rules::Limits;
+use rules::Node;
+use rules::Refusal;
 
 // What stands at the front of a net file.
 pub enum Front {

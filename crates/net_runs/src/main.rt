@@ -15,7 +15,7 @@ fn main() {
 
 // The next net of the input. A column has room for one place more than a net may have.
 fn judge_next() {
-    let l = net::Limits {
+    let l = rules::Limits {
         limit: read4(),
         pin: read4(),
         repeater: read1(),
@@ -40,12 +40,12 @@ fn judge_next() {
     ));
 }
 
-fn tell(judged: net::Judged) {
+fn tell(judged: rules::Judged) {
     match judged {
-        net::Judged::Sound => {
+        rules::Judged::Sound => {
             io::write_all(1, b"sound\n");
         }
-        net::Judged::Refused(r) => {
+        rules::Judged::Refused(r) => {
             answer::print_refused(libc::STDOUT_FILENO, r);
         }
     }

@@ -8,9 +8,9 @@ use lib.ListN.{length}
 use lib.Seq.{sets}
 use lib.Dec.{ltb}
 use borrow.Author.Tests.{lt-ltb, le-ltb}
-use Rattle.net.specs.declared.Refusal.{Refusal}
-use Rattle.net.specs.declared.Refusal.the-variants.{NoRoom}
-use Rattle.net.specs.declared.Judged.the-variants.{Sound, Refused as Unsound}
+use Rattle.rules.specs.declared.Refusal.{Refusal}
+use Rattle.rules.specs.declared.Refusal.the-variants.{NoRoom}
+use Rattle.rules.specs.declared.Judged.the-variants.{Sound, Refused as Unsound}
 use Rattle.placement_file.specs.declared.PlacementRead.the-variants.{Read, Refused}
 use Rattle.field.specs.Listed.{listed}
 use Rattle.placement_file.specs.File.{owed, entryAt, fileJudged, placementOf, wire, offset, ReadAs}

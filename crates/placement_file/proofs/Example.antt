@@ -3,9 +3,9 @@ use Prim.Native.Nat.{ℕ}
 use mathlib.Core.Path.{_≡_, refl}
 use mathlib.Core.List.{List, [], _∷_, _++_}
 use lib.ListN.{take}
-use Rattle.net.specs.Judge.{judgeEach}
-use Rattle.net.specs.declared.Refusal.the-variants.{FileEnds, NotDue, OutOfRange, BytesAfterEnd}
-use Rattle.net.specs.declared.Entry.{Entry}
+use Rattle.rules.specs.Judge.{judgeEach}
+use Rattle.rules.specs.declared.Refusal.the-variants.{FileEnds, NotDue, OutOfRange, BytesAfterEnd}
+use Rattle.rules.specs.declared.Entry.{Entry}
 use Rattle.field.specs.Format.{fieldIn}
 use Rattle.field.specs.Listed.{listed}
 use Rattle.placement_file.specs.File.{owed, countJudged, entryAt, entryJudged, endJudged, bodyJudged, fileJudged, placement, refused, placementOf, entriesBytes, placementBytes}

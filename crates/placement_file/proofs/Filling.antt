@@ -6,7 +6,7 @@ use mathlib.Core.Path.{_≡_, refl, sym, ap, _∙_}
 use mathlib.Core.List.{List, map}
 use lib.ListN.{length, set, length-set}
 use lib.Seq.{sets}
-use Rattle.net.specs.declared.Entry.{Entry}
+use Rattle.rules.specs.declared.Entry.{Entry}
 use Rattle.field.specs.Listed.{listed}
 use Rattle.field.proofs.Listing.{listed-next, listed-end}
 

@@ -6,15 +6,15 @@ use mathlib.Core.Bool.{Bool, true, false}
 use lib.ListN.{length}
 use lib.Dec.{eqb, leb}
 use borrow.Author.Tests.{eqb-true, leb-true}
-use Rattle.net.specs.Figures.{mostEntries}
-use Rattle.net.specs.Judge.{unless, thenJudge}
-use Rattle.net.specs.Checked.{placementFits}
-use Rattle.net.specs.declared.Entry.{Entry}
-use Rattle.net.specs.declared.Refusal.{Refusal}
-use Rattle.net.specs.declared.Refusal.the-variants.{OutOfRange, WrongColumns}
-use Rattle.net.specs.declared.Judged.{Judged}
-use Rattle.net.specs.declared.Judged.the-variants.{Sound, Refused}
-use Rattle.net.proofs.Tests.{both-met, then-met, unless-met}
+use Rattle.rules.specs.Figures.{mostEntries}
+use Rattle.rules.specs.Judge.{unless, thenJudge}
+use Rattle.rules.specs.Checked.{placementFits}
+use Rattle.rules.specs.declared.Entry.{Entry}
+use Rattle.rules.specs.declared.Refusal.{Refusal}
+use Rattle.rules.specs.declared.Refusal.the-variants.{OutOfRange, WrongColumns}
+use Rattle.rules.specs.declared.Judged.{Judged}
+use Rattle.rules.specs.declared.Judged.the-variants.{Sound, Refused}
+use Rattle.rules.proofs.Tests.{both-met, then-met, unless-met}
 use Rattle.field.specs.Format.{dueAt}
 use Rattle.field.specs.declared.DueRead.{DueRead}
 use Rattle.placement_file.specs.File.{due, entryIn, entryInRange, owed, countJudged, startOf, entryAt, entryJudged, bodyJudged, fileJudged, columnEntry, rangeJudged, rangesJudged, columnsJudged}

@@ -4,8 +4,8 @@ use native.Mathlib.Omega.{arith}
 use mathlib.Core.Path.{_≡_, refl, sym, ap, _∙_}
 use mathlib.Core.List.{List, [], _∷_}
 use lib.ListN.{length}
-use Rattle.net.specs.Load.{entries}
-use Rattle.net.specs.declared.Entry.{Entry}
+use Rattle.rules.specs.Load.{entries}
+use Rattle.rules.specs.declared.Entry.{Entry}
 use Rattle.field.specs.Listed.{listed}
 use Rattle.field.proofs.Listing.{length-listed}
 use Rattle.placement_file.specs.File.{columnEntry}

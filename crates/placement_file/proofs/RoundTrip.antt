@@ -9,17 +9,17 @@ use mathlib.Core.Bool.{Bool, true}
 use lib.ListN.{length, drop, length-drop, length-map, drop-of-length-le}
 use lib.Dec.{ltb, leb}
 use borrow.Author.Tests.{leb-true, le-leb, eq-eqb}
-use Rattle.net.specs.Figures.{mostNodes, mostWire, mostEntries}
-use Rattle.net.specs.Choose.{pick, both}
-use Rattle.net.specs.Judge.{unless, judgeEach}
-use Rattle.net.specs.Load.{entries}
-use Rattle.net.specs.Checked.{placementFits}
-use Rattle.net.specs.declared.Entry.{Entry}
-use Rattle.net.specs.declared.Refusal.the-variants.{OutOfRange, BytesAfterEnd}
-use Rattle.net.specs.declared.Judged.{Judged}
-use Rattle.net.specs.declared.Judged.the-variants.{Sound, Refused as Unsound}
-use Rattle.net.proofs.Tests.{never, both-met, both-true, then-met, unless-met}
-use Rattle.net.proofs.Each.{each-met, each-sound}
+use Rattle.rules.specs.Figures.{mostNodes, mostWire, mostEntries}
+use Rattle.rules.specs.Choose.{pick, both}
+use Rattle.rules.specs.Judge.{unless, judgeEach}
+use Rattle.rules.specs.Load.{entries}
+use Rattle.rules.specs.Checked.{placementFits}
+use Rattle.rules.specs.declared.Entry.{Entry}
+use Rattle.rules.specs.declared.Refusal.the-variants.{OutOfRange, BytesAfterEnd}
+use Rattle.rules.specs.declared.Judged.{Judged}
+use Rattle.rules.specs.declared.Judged.the-variants.{Sound, Refused as Unsound}
+use Rattle.rules.proofs.Tests.{never, both-met, both-true, then-met, unless-met}
+use Rattle.rules.proofs.Each.{each-met, each-sound}
 use Rattle.field.specs.Format.{tagOf, numbersOf, valueOf, fieldAt, dueIn, dueAt, bytesOf, Fitting}
 use Rattle.field.specs.declared.Value.{Value}
 use Rattle.field.specs.declared.Value.the-variants.{Count, Entry as AnEntry, End}

@@ -8,10 +8,10 @@ use lib.ListN.{length, length-map, take}
 use lib.Seq.{sets, sets-eq, take-at}
 use lib.Dec.{ltb}
 use borrow.Author.Tests.{ltb-false, le-ltb}
-use Rattle.net.specs.Choose.{pick}
-use Rattle.net.specs.declared.Entry.{Entry}
-use Rattle.net.proofs.Tests.{never}
-use Rattle.net.proofs.Refusals.{numbered}
+use Rattle.rules.specs.Choose.{pick}
+use Rattle.rules.specs.declared.Entry.{Entry}
+use Rattle.rules.proofs.Tests.{never}
+use Rattle.rules.proofs.Refusals.{numbered}
 use Rattle.field.specs.Format.{wroteNumber, wroteCount}
 use Rattle.field.specs.declared.Wrote.{Wrote}
 use Rattle.field.specs.declared.Wrote.the-variants.{Bytes, Refused as NotWritten}

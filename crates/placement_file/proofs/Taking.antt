@@ -8,8 +8,8 @@ use lib.Dec.{eqb}
 use types.Run.{OneOf, miss}
 use denote.Enum.Declared.{tagOf as variantOf}
 use Rattle.field.proofs.Value.{the-type}
-use Rattle.net.specs.Choose.{pick}
-use Rattle.net.specs.declared.Entry.{Entry}
+use Rattle.rules.specs.Choose.{pick}
+use Rattle.rules.specs.declared.Entry.{Entry}
 use Rattle.field.specs.Format.{tagOf, numbersOf}
 use Rattle.field.specs.declared.Value.{Value}
 use Rattle.field.specs.declared.Value.the-variants.{Limits, Branch, Sink, Count, Entry as AnEntry, End}

@@ -6,17 +6,17 @@ use mathlib.Core.Bool.{Bool}
 use lib.ListN.{length, getD}
 use lib.Dec.{ltb, leb, eqb}
 use lib.Seq.{sets}
-use Rattle.net.specs.Figures.{mostNodes, mostWire, mostEntries}
-use Rattle.net.specs.Choose.{pick, both}
-use Rattle.net.specs.Refusal.{numberOf, placeOf}
-use Rattle.net.specs.Judge.{unless, thenJudge, judgeEach}
-use Rattle.net.specs.Load.{entries}
-use Rattle.net.specs.Checked.{placementFits}
-use Rattle.net.specs.declared.Entry.{Entry}
-use Rattle.net.specs.declared.Refusal.{Refusal}
-use Rattle.net.specs.declared.Refusal.the-variants.{OutOfRange, BytesAfterEnd, WrongColumns, NoRoom}
-use Rattle.net.specs.declared.Judged.{Judged}
-use Rattle.net.specs.declared.Judged.the-variants.{Sound, Refused as Unsound}
+use Rattle.rules.specs.Figures.{mostNodes, mostWire, mostEntries}
+use Rattle.rules.specs.Choose.{pick, both}
+use Rattle.rules.specs.Refusal.{numberOf, placeOf}
+use Rattle.rules.specs.Judge.{unless, thenJudge, judgeEach}
+use Rattle.rules.specs.Load.{entries}
+use Rattle.rules.specs.Checked.{placementFits}
+use Rattle.rules.specs.declared.Entry.{Entry}
+use Rattle.rules.specs.declared.Refusal.{Refusal}
+use Rattle.rules.specs.declared.Refusal.the-variants.{OutOfRange, BytesAfterEnd, WrongColumns, NoRoom}
+use Rattle.rules.specs.declared.Judged.{Judged}
+use Rattle.rules.specs.declared.Judged.the-variants.{Sound, Refused as Unsound}
 use Rattle.field.specs.Listed.{listed}
 use Rattle.field.specs.Format.{tagOf, numbersOf, dueAt, bytesOf, wrote, laid}
 use Rattle.field.specs.declared.Value.the-variants.{Count, Entry as AnEntry, End}

@@ -4,16 +4,16 @@ ghost use mathlib.Core.List.{map};
 ghost use Prim.Native.Nat.{_+_, _*_, _≤_, _<_};
 ghost use lib.ListN.{length};
 ghost use lib.Seq.{sets};
-ghost use Rattle.net.specs.Judge.{unless as orRefused, thenJudge};
-ghost use Rattle.net.specs.Load.{entries};
+ghost use Rattle.rules.specs.Judge.{unless as orRefused, thenJudge};
+ghost use Rattle.rules.specs.Load.{entries};
 ghost use Rattle.field.specs.Listed.{listed};
 ghost use Rattle.placement_file.specs.File.{due, countIn, entryIn, entryInRange, owed, countJudged, entryAt, entryJudged, endJudged, bodyJudged, fileJudged, wire, offset, placementOf, columnEntry, rangesJudged, columnsJudged, columnsOf, ReadAs, placementBytes, WroteAs};
 use field::DueRead;
 use field::Value;
 use field::Wrote;
-use net::Entry;
-use net::Judged;
-use net::Refusal;
+use rules::Entry;
+use rules::Judged;
+use rules::Refusal;
 
 // What the reader answers: how many entries it filled in, or why none.
 pub enum PlacementRead {

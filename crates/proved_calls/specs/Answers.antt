@@ -1,11 +1,11 @@
 -- The limits from their numbers, and what the judge says by numbers: some answer that its contract allows, its number and its place.
 use Prim.Native.Nat.{ℕ}
 use mathlib.Core.Path.{_≡_}
-use Rattle.net.specs.declared.Limits.{Limits}
-use Rattle.net.specs.declared.Judged.{Judged}
-use Rattle.net.specs.Net.{Net}
-use Rattle.net.specs.Refusal.{judgedNumber, judgedPlace}
-use Rattle.net.specs.Judge.{judged}
+use Rattle.rules.specs.declared.Limits.{Limits}
+use Rattle.rules.specs.declared.Judged.{Judged}
+use Rattle.rules.specs.Net.{Net}
+use Rattle.rules.specs.Refusal.{judgedNumber, judgedPlace}
+use Rattle.rules.specs.Judge.{judged}
 
 abbrev pub limitsOf : ℕ → ℕ → ℕ → Limits
 limitsOf limit pin repeater = record { limit = limit; pin = pin; repeater = repeater }

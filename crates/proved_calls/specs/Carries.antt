@@ -2,7 +2,7 @@
 use Prim.Native.Nat.{ℕ}
 use mathlib.Core.Path.{_≡_}
 use mathlib.Core.List.{List}
-use Rattle.net.specs.Net.{Net}
+use Rattle.rules.specs.Net.{Net}
 use Rattle.carry.specs.declared.Outcome.{Outcome}
 use Rattle.carry.specs.Carry.{CarriedIs, outcomeNumber, outcomeCount, whichNet}
 

@@ -2,8 +2,8 @@
 use Prim.Native.Nat.{ℕ}
 use mathlib.Core.Path.{_≡_}
 use mathlib.Core.List.{List}
-use Rattle.net.specs.declared.Limits.{Limits}
-use Rattle.net.specs.Net.{Net}
+use Rattle.rules.specs.declared.Limits.{Limits}
+use Rattle.rules.specs.Net.{Net}
 use Rattle.field.specs.declared.Wrote.{Wrote}
 use Rattle.field.specs.Format.{wroteNumber, wroteCount}
 use Rattle.net_file.specs.declared.NetRead.{NetRead}

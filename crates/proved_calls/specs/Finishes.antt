@@ -2,8 +2,8 @@
 use Prim.Native.Nat.{ℕ}
 use mathlib.Core.Path.{_≡_}
 use mathlib.Core.List.{List}
-use Rattle.net.specs.Net.{Net}
-use Rattle.net.specs.Load.{entries}
+use Rattle.rules.specs.Net.{Net}
+use Rattle.rules.specs.Load.{entries}
 use Rattle.finish.specs.declared.Finished.{Finished}
 use Rattle.finish.specs.Answer.{halfJudged, Answered, finishedNumber, finishedCount}
 

@@ -2,8 +2,8 @@
 use Prim.Native.Nat.{ℕ}
 use mathlib.Core.Path.{_≡_}
 use mathlib.Core.List.{List}
-use Rattle.net.specs.Net.{Net}
-use Rattle.net.specs.Judge.{judged}
+use Rattle.rules.specs.Net.{Net}
+use Rattle.rules.specs.Judge.{judged}
 use Rattle.solver.specs.declared.Solved.{Solved}
 use Rattle.solver.specs.Answer.{Answered, solvedNumber, solvedCount}
 

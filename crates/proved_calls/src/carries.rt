@@ -1,8 +1,8 @@
 // The carry.
 use carry::Outcome;
-use net::Limits;
+use rules::Limits;
 ghost use mathlib.Core.Path.{_≡_};
-ghost use Rattle.net.specs.Net.{netAt};
+ghost use Rattle.rules.specs.Net.{netAt};
 ghost use Rattle.proved_calls.specs.Answers.{limitsOf};
 ghost use Rattle.carry.specs.Carry.{outcomeNumber, outcomeCount, whichNet};
 ghost use Rattle.proved_calls.specs.Carries.{Carries};

@@ -1,9 +1,9 @@
 // The checker and the list of loads.
 use checker::Listed;
 use checker::Verdict;
-use net::Limits;
+use rules::Limits;
 ghost use mathlib.Core.Path.{_≡_};
-ghost use Rattle.net.specs.Net.{netAt};
+ghost use Rattle.rules.specs.Net.{netAt};
 ghost use Rattle.proved_calls.specs.Answers.{limitsOf};
 ghost use Rattle.checker.specs.Verdict.{verdictNumber, verdictCount, verdictSource};
 ghost use Rattle.checker.specs.Listing.{listedNumber, listedCount, listedSource};

@@ -1,11 +1,11 @@
 // The readers and the writers of the two files.
 use field::Wrote;
-use net::Limits;
+use rules::Limits;
 use net_file::NetRead;
 use net_file::NetWrote;
 use placement_file::PlacementRead;
 ghost use mathlib.Core.Path.{_≡_};
-ghost use Rattle.net.specs.Net.{netAt};
+ghost use Rattle.rules.specs.Net.{netAt};
 ghost use Rattle.net.specs.Counted.{unlimited};
 ghost use Rattle.field.specs.Format.{wroteNumber as placementWroteNumber, wroteCount};
 ghost use Rattle.net_file.specs.NetFile.{readNumber, readPlaces, wroteNumber, wroteBytes};

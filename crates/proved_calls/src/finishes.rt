@@ -1,8 +1,8 @@
 // The call that finishes a half-buffered net.
 use finish::Finished;
-use net::Limits;
+use rules::Limits;
 ghost use mathlib.Core.Path.{_≡_};
-ghost use Rattle.net.specs.Net.{netAt};
+ghost use Rattle.rules.specs.Net.{netAt};
 ghost use Rattle.proved_calls.specs.Answers.{limitsOf};
 ghost use Rattle.finish.specs.Answer.{finishedNumber, finishedCount};
 ghost use Rattle.proved_calls.specs.Finishes.{Finishes};

@@ -6,11 +6,11 @@ mod files;
 mod finishes;
 mod solves;
 
-use net::Judged;
-use net::Limits;
+use rules::Judged;
+use rules::Limits;
 ghost use mathlib.Core.Path.{_≡_};
-ghost use Rattle.net.specs.Net.{netAt};
-ghost use Rattle.net.specs.Refusal.{judgedNumber, judgedPlace};
+ghost use Rattle.rules.specs.Net.{netAt};
+ghost use Rattle.rules.specs.Refusal.{judgedNumber, judgedPlace};
 ghost use Rattle.proved_calls.specs.Answers.{limitsOf, Judges};
 
 fn judged_number(said: Judged) -> u32

@@ -1,8 +1,8 @@
 // The solver.
-use net::Limits;
+use rules::Limits;
 use solver::Solved;
 ghost use mathlib.Core.Path.{_≡_};
-ghost use Rattle.net.specs.Net.{netAt};
+ghost use Rattle.rules.specs.Net.{netAt};
 ghost use Rattle.proved_calls.specs.Answers.{limitsOf};
 ghost use Rattle.solver.specs.Answer.{solvedNumber, solvedCount};
 ghost use Rattle.proved_calls.specs.Solves.{Solves};

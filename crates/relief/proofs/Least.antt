@@ -4,16 +4,16 @@ use mathlib.Core.Path.{_≡_, refl, subst, _∙_}
 use mathlib.Core.List.{List}
 use lib.ListN.{length}
 use native.Mathlib.Omega.{arith}
-use Rattle.net.specs.declared.Entry.{Entry}
-use Rattle.net.specs.Net.{Net, places, wire, kind, pin, polarity}
-use Rattle.net.specs.Tree.{Hanging, none, sink, branch, under, tree}
-use Rattle.net.specs.Load.{offsetsOn}
-use Rattle.net.specs.Legal.{InOrder, start}
-use Rattle.net.specs.Complete.{Joins, end, given, added, Completes, LeastAdded, NoneCompletes}
-use Rattle.net.specs.Sound.{SoundNet}
-use Rattle.net.proofs.Counting.{Every}
-use Rattle.net.proofs.Order.{in-order-rises}
-use Rattle.net.proofs.Completing.{joins-length, joins-append, joins-on}
+use Rattle.rules.specs.declared.Entry.{Entry}
+use Rattle.rules.specs.Net.{Net, places, wire, kind, pin, polarity}
+use Rattle.rules.specs.Tree.{Hanging, none, sink, branch, under, tree}
+use Rattle.rules.specs.Load.{offsetsOn}
+use Rattle.rules.specs.Legal.{InOrder, start}
+use Rattle.rules.specs.Complete.{Joins, end, given, added, Completes, LeastAdded, NoneCompletes}
+use Rattle.rules.specs.Sound.{SoundNet}
+use Rattle.rules.proofs.Counting.{Every}
+use Rattle.rules.proofs.Order.{in-order-rises}
+use Rattle.rules.proofs.Completing.{joins-length, joins-append, joins-on}
 use Rattle.frontier.specs.Cell.{kindOf, Cell, cellOf, turn}
 use Rattle.frontier.specs.Plan.{planOf, count, load, Good, Par, Settled}
 use Rattle.frontier.specs.Cert.{sum}

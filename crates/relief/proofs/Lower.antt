@@ -5,10 +5,10 @@ use mathlib.Core.List.{List}
 use lib.ListN.{length}
 use native.Mathlib.Nat.{mul-le-mul-left}
 use native.Mathlib.Omega.{arith}
-use Rattle.net.specs.Net.{Net, wire}
-use Rattle.net.specs.Tree.{Hanging, none, sink, branch, under}
-use Rattle.net.specs.Sound.{SoundNet}
-use Rattle.net.specs.Complete.{Joins}
+use Rattle.rules.specs.Net.{Net, wire}
+use Rattle.rules.specs.Tree.{Hanging, none, sink, branch, under}
+use Rattle.rules.specs.Sound.{SoundNet}
+use Rattle.rules.specs.Complete.{Joins}
 use Rattle.frontier.specs.Cell.{Cell}
 use Rattle.frontier.specs.Plan.{planOf, count, GoodW, topW, load, Good}
 use Rattle.frontier.specs.Cert.{sum}

@@ -5,10 +5,10 @@ use mathlib.Core.List.{List, [], _∷_, _++_, append-nil}
 use lib.ListN.{length, length-append, replicate, length-replicate}
 use native.Mathlib.Nat.{le-trans}
 use native.Mathlib.Omega.{arith}
-use Rattle.net.specs.Load.{handsUp}
-use Rattle.net.specs.Complete.{Joins, given, added}
-use Rattle.net.proofs.Order.{Rising}
-use Rattle.net.proofs.Completing.{all-added}
+use Rattle.rules.specs.Load.{handsUp}
+use Rattle.rules.specs.Complete.{Joins, given, added}
+use Rattle.rules.proofs.Order.{Rising}
+use Rattle.rules.proofs.Completing.{all-added}
 use Rattle.frontier.specs.Cell.{Cell}
 use Rattle.frontier.specs.Plan.{GoodW, topW}
 use Rattle.frontier.specs.Frontier.{ceil, T}

@@ -3,10 +3,10 @@ use Prim.Native.Nat.{ℕ, suc, _+_, _≤_, _<_}
 use mathlib.Core.Path.{_≡_, refl, sym, subst, _∙_}
 use mathlib.Core.List.{List}
 use native.Mathlib.Omega.{arith}
-use Rattle.net.specs.Net.{Net, wire}
-use Rattle.net.specs.Tree.{Hanging, none, sink, branch}
-use Rattle.net.specs.Sound.{SoundNet}
-use Rattle.net.proofs.Order.{Rising}
+use Rattle.rules.specs.Net.{Net, wire}
+use Rattle.rules.specs.Tree.{Hanging, none, sink, branch}
+use Rattle.rules.specs.Sound.{SoundNet}
+use Rattle.rules.proofs.Order.{Rising}
 use Rattle.frontier.specs.Cell.{Cell}
 use Rattle.frontier.specs.Plan.{planOf, load, Good}
 use Rattle.frontier.specs.Cert.{sum}

@@ -5,10 +5,10 @@ use mathlib.Core.List.{List, [], _∷_, _++_}
 use native.Mathlib.Omega.{arith}
 use native.Mathlib.Decide.{ℕ-discrete}
 use borrow.Author.Tests.{eq-eqb, ne-eqb}
-use Rattle.net.specs.declared.Entry.{Entry}
-use Rattle.net.specs.Net.{Net, places}
-use Rattle.net.specs.Load.{offsetsOn}
-use Rattle.net.specs.Legal.{After, higher, further, InOrder, start}
+use Rattle.rules.specs.declared.Entry.{Entry}
+use Rattle.rules.specs.Net.{Net, places}
+use Rattle.rules.specs.Load.{offsetsOn}
+use Rattle.rules.specs.Legal.{After, higher, further, InOrder, start}
 use Rattle.frontier.specs.Placed.{onWire, onWires, placed}
 use Rattle.relief.specs.Runs.{Sorted, past}
 

@@ -5,8 +5,8 @@ use mathlib.Core.List.{List, [], _∷_}
 use lib.ListN.{length}
 use native.Mathlib.Nat.{mul-le-mul-right}
 use native.Mathlib.Omega.{arith}
-use Rattle.net.specs.Load.{handsUp}
-use Rattle.net.specs.Complete.{Joins, given, added}
+use Rattle.rules.specs.Load.{handsUp}
+use Rattle.rules.specs.Complete.{Joins, given, added}
 use Rattle.frontier.specs.Cell.{Cell}
 use Rattle.frontier.specs.Plan.{GoodW, topW}
 use Rattle.frontier.specs.Frontier.{ceil, T}

@@ -2,8 +2,8 @@
 use Prim.Native.Nat.{ℕ, _+_, _≤_, _<_}
 use mathlib.Core.Path.{_≡_}
 use mathlib.Core.List.{List}
-use Rattle.net.specs.Net.{Net, places, wire, kind, pin}
-use Rattle.net.specs.Tree.{Hanging, none, sink, branch, under}
+use Rattle.rules.specs.Net.{Net, places, wire, kind, pin}
+use Rattle.rules.specs.Tree.{Hanging, none, sink, branch, under}
 use Rattle.frontier.specs.Cell.{Cell}
 use Rattle.frontier.specs.Cert.{sum}
 use Rattle.relief.specs.Pieces.{bare, topped, wholeFrom, addedFrom}

@@ -2,7 +2,7 @@
 use Prim.Native.Nat.{ℕ, zero, suc, _+_, _-_}
 use mathlib.Core.List.{List, [], _∷_, _++_}
 use lib.ListN.{replicate}
-use Rattle.net.specs.Figures.{mostLimit, mostWire}
+use Rattle.rules.specs.Figures.{mostLimit, mostWire}
 use Rattle.frontier.specs.Cell.{Cell}
 use Rattle.frontier.specs.Frontier.{ceil, T}
 use Rattle.frontier.specs.Spaced.{spread}

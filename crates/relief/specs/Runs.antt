@@ -3,9 +3,9 @@ use Prim.Native.Nat.{ℕ, _≤_}
 use mathlib.Core.List.{List, [], _∷_}
 use lib.ListN.{drop}
 use lib.Dec.{eqb}
-use Rattle.net.specs.declared.Entry.{Entry}
-use Rattle.net.specs.Choose.{pick}
-use Rattle.net.specs.Load.{entries}
+use Rattle.rules.specs.declared.Entry.{Entry}
+use Rattle.rules.specs.Choose.{pick}
+use Rattle.rules.specs.Load.{entries}
 
 -- the entries of two columns from e on
 abbrev pub from : List ℕ → List ℕ → ℕ → List Entry

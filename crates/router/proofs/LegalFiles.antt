@@ -3,15 +3,15 @@ use Prim.Native.Nat.{ℕ, _≤_}
 use mathlib.Core.Path.{_≡_, refl, sym, ap, subst, _∙_}
 use mathlib.Core.List.{List, map}
 use native.Mathlib.Omega.{arith}
-use Rattle.net.specs.declared.Entry.{Entry}
-use Rattle.net.specs.declared.Refusal.{Refusal}
-use Rattle.net.specs.declared.Judged.{Judged}
-use Rattle.net.specs.declared.Judged.the-variants.{Sound, Refused}
-use Rattle.net.specs.Refusal.{numberOf, judgedNumber}
-use Rattle.net.specs.Net.{Net}
-use Rattle.net.specs.Legal.{Legal}
-use Rattle.net.specs.Checked.{checked}
-use Rattle.net.proofs.Refusals.{numbered, none-given}
+use Rattle.rules.specs.declared.Entry.{Entry}
+use Rattle.rules.specs.declared.Refusal.{Refusal}
+use Rattle.rules.specs.declared.Judged.{Judged}
+use Rattle.rules.specs.declared.Judged.the-variants.{Sound, Refused}
+use Rattle.rules.specs.Refusal.{numberOf, judgedNumber}
+use Rattle.rules.specs.Net.{Net}
+use Rattle.rules.specs.Legal.{Legal}
+use Rattle.rules.specs.Checked.{checked}
+use Rattle.rules.proofs.Refusals.{numbered, none-given}
 use Rattle.net_file.specs.NetFile as net_file
 use Rattle.placement_file.specs.File as placement_file
 use Rattle.placement_file.specs.File.{wire, offset}

@@ -8,24 +8,24 @@ use lib.Seq.{sets, length-sets}
 use lib.Dec.{ltb}
 use native.Mathlib.Omega.{arith}
 use borrow.Author.Tests.{le-ltb, ltb-false}
-use Rattle.net.specs.declared.Limits.{Limits}
-use Rattle.net.specs.declared.Entry.{Entry}
-use Rattle.net.specs.declared.Refusal.{Refusal}
-use Rattle.net.specs.declared.Refusal.the-variants.{NoRoom}
-use Rattle.net.specs.declared.Judged.{Judged}
-use Rattle.net.specs.declared.Judged.the-variants.{Sound, Refused as Unsound}
-use Rattle.net.specs.Figures.{mostPlaces, mostEntries}
-use Rattle.net.specs.Choose.{pick}
-use Rattle.net.specs.Net.{Net, places}
-use Rattle.net.proofs.SoundSays.{sound-says}
+use Rattle.rules.specs.declared.Limits.{Limits}
+use Rattle.rules.specs.declared.Entry.{Entry}
+use Rattle.rules.specs.declared.Refusal.{Refusal}
+use Rattle.rules.specs.declared.Refusal.the-variants.{NoRoom}
+use Rattle.rules.specs.declared.Judged.{Judged}
+use Rattle.rules.specs.declared.Judged.the-variants.{Sound, Refused as Unsound}
+use Rattle.rules.specs.Figures.{mostPlaces, mostEntries}
+use Rattle.rules.specs.Choose.{pick}
+use Rattle.rules.specs.Net.{Net, places}
+use Rattle.rules.proofs.SoundSays.{sound-says}
 use Rattle.field.specs.Listed.{listed}
 use Rattle.field.proofs.Numbers.{AreBytes}
 use Rattle.field.proofs.Listing.{length-listed}
 use Rattle.net_file.specs.declared.NetRead.{NetRead}
 use Rattle.net_file.specs.declared.NetRead.the-variants.{Read as NetWasRead, Refused as NetRefused}
-use Rattle.net.specs.Refusal.{judgedNumber}
-use Rattle.net.specs.Load.{entries, offsetsOn, sourceDrives}
-use Rattle.net.specs.Checked.{checked}
+use Rattle.rules.specs.Refusal.{judgedNumber}
+use Rattle.rules.specs.Load.{entries, offsetsOn, sourceDrives}
+use Rattle.rules.specs.Checked.{checked}
 use Rattle.checker.specs.Verdict.{verdictOf, verdictNumber, verdict}
 use Rattle.net_file.specs.NetFile as net_file
 use Rattle.net_file.specs.NetFile.{netOf, room, firstPlaces, ReadNet}

@@ -1,9 +1,9 @@
 -- Document 01: "the checker is exported to it over the two files' bytes, answering the number alone: the net file's refusal first, then the placement file's, then the checker's."
 use Prim.Native.Nat.{ℕ}
 use mathlib.Core.List.{List, map}
-use Rattle.net.specs.Refusal.{numberOf, judgedNumber}
-use Rattle.net.specs.Net.{Net}
-use Rattle.net.specs.Checked.{checked}
+use Rattle.rules.specs.Refusal.{numberOf, judgedNumber}
+use Rattle.rules.specs.Net.{Net}
+use Rattle.rules.specs.Checked.{checked}
 use Rattle.net_file.specs.NetFile as net_file
 use Rattle.placement_file.specs.File as placement_file
 

@@ -1,14 +1,14 @@
 // The one call that the router makes, from C: is this placement file legal on this net file?
 use checker::Verdict;
-use net::Limits;
+use rules::Limits;
 use net_file::NetRead;
 use placement_file::PlacementRead;
 ghost use mathlib.Core.Path.{_≡_};
 ghost use Prim.Native.Nat.{_≤_};
 ghost use lib.ListN.{length, take};
-ghost use Rattle.net.specs.Net.{netAt};
-ghost use Rattle.net.specs.Refusal.{judgedNumber};
-ghost use Rattle.net.specs.Checked.{checked};
+ghost use Rattle.rules.specs.Net.{netAt};
+ghost use Rattle.rules.specs.Refusal.{judgedNumber};
+ghost use Rattle.rules.specs.Checked.{checked};
 ghost use Rattle.net_file.specs.NetFile.{room, firstPlaces};
 ghost use Rattle.placement_file.specs.File.{placementOf};
 ghost use Rattle.checker.specs.Verdict.{verdictNumber};

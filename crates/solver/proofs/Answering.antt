@@ -2,12 +2,12 @@
 use mathlib.Core.Path.{_≡_, refl, sym, subst}
 use mathlib.Core.List.{List}
 use Prim.Native.Nat.{ℕ}
-use Rattle.net.specs.declared.Refusal.{Refusal}
-use Rattle.net.specs.declared.Judged.{Judged}
-use Rattle.net.specs.declared.Judged.the-variants as judge
-use Rattle.net.specs.declared.Limits.{Limits}
-use Rattle.net.specs.Net.{Net, net}
-use Rattle.net.specs.Judge.{judged}
+use Rattle.rules.specs.declared.Refusal.{Refusal}
+use Rattle.rules.specs.declared.Judged.{Judged}
+use Rattle.rules.specs.declared.Judged.the-variants as judge
+use Rattle.rules.specs.declared.Limits.{Limits}
+use Rattle.rules.specs.Net.{Net, net}
+use Rattle.rules.specs.Judge.{judged}
 use Rattle.solver.specs.declared.Solved.{Solved}
 use Rattle.solver.specs.declared.Solved.the-variants.{Refused}
 use Rattle.solver.specs.Answer.{Outcome, Answered}

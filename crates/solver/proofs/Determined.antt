@@ -4,12 +4,12 @@ use mathlib.Core.Path.{_≡_, sym, ap, _∙_}
 use mathlib.Core.List.{List}
 use native.Mathlib.Omega.{arith}
 use lib.ListN.{length}
-use Rattle.net.specs.declared.Refusal.the-variants.{NoRoom}
-use Rattle.net.specs.declared.Judged.{Judged}
-use Rattle.net.specs.declared.Judged.the-variants as judge
-use Rattle.net.specs.Net.{Net}
-use Rattle.net.specs.Judge.{judged}
-use Rattle.net.specs.Legal.{Legal, Least, NoneLegal}
+use Rattle.rules.specs.declared.Refusal.the-variants.{NoRoom}
+use Rattle.rules.specs.declared.Judged.{Judged}
+use Rattle.rules.specs.declared.Judged.the-variants as judge
+use Rattle.rules.specs.Net.{Net}
+use Rattle.rules.specs.Judge.{judged}
+use Rattle.rules.specs.Legal.{Legal, Least, NoneLegal}
 use Rattle.frontier.proofs.LeastCount.{one-least}
 use Rattle.columns.proofs.Alike.{Alike, alike-kept, alike-holds}
 use Rattle.solver.specs.declared.Solved.{Solved}

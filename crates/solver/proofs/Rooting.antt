@@ -5,10 +5,10 @@ use mathlib.Core.List.{List}
 use native.Mathlib.Omega.{arith}
 use lib.ListN.{length, getD, set, length-set}
 use lib.Seq.{sets, getD-set-same, getD-set-other}
-use Rattle.net.specs.Net.{Net, places}
-use Rattle.net.specs.Tree.{hanging, tree}
-use Rattle.net.specs.Legal.{Legal, Least, NoneLegal}
-use Rattle.net.specs.Sound.{SoundNet}
+use Rattle.rules.specs.Net.{Net, places}
+use Rattle.rules.specs.Tree.{hanging, tree}
+use Rattle.rules.specs.Legal.{Legal, Least, NoneLegal}
+use Rattle.rules.specs.Sound.{SoundNet}
 use Rattle.frontier.specs.Cell as model
 use Rattle.frontier.specs.Plan.{planOf, count, Settled}
 use Rattle.frontier.specs.Frontier.{State, lost, has, Acc, fail, all, merge, acc, close, width}

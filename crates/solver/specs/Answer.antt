@@ -1,15 +1,15 @@
--- What the solver answers, over the definitions of crate `net` alone. Document 01: "The solver is one call for both types; it goes on with 8, then 9."
+-- What the solver answers, over the definitions of crate `rules` alone. Document 01: "The solver is one call for both types; it goes on with 8, then 9."
 use Prim.Native.Nat.{ℕ, _≤_, _<_}
 use mathlib.Core.Path.{_≡_}
 use mathlib.Core.List.{List}
 use lib.ListN.{length}
-use Rattle.net.specs.declared.Entry.{Entry}
-use Rattle.net.specs.declared.Refusal.the-variants.{NoLegalPlacement, NoRoom}
-use Rattle.net.specs.declared.Judged.{Judged}
-use Rattle.net.specs.declared.Judged.the-variants as judge
-use Rattle.net.specs.Net.{Net}
-use Rattle.net.specs.Refusal.{numberOf, placeOf}
-use Rattle.net.specs.Legal.{Legal, Least, NoneLegal}
+use Rattle.rules.specs.declared.Entry.{Entry}
+use Rattle.rules.specs.declared.Refusal.the-variants.{NoLegalPlacement, NoRoom}
+use Rattle.rules.specs.declared.Judged.{Judged}
+use Rattle.rules.specs.declared.Judged.the-variants as judge
+use Rattle.rules.specs.Net.{Net}
+use Rattle.rules.specs.Refusal.{numberOf, placeOf}
+use Rattle.rules.specs.Legal.{Legal, Least, NoneLegal}
 use Rattle.columns.specs.Columns.{roomIn, Kept, Holds}
 use Rattle.solver.specs.declared.Solved.{Solved}
 use Rattle.solver.specs.declared.Solved.the-variants.{Placed, Refused}

@@ -1,8 +1,8 @@
 -- What is found at the source: the frontier's root, and the polarity and the surplus that reach it.
 use Prim.Native.Nat.{ℕ, zero, suc, _*_, _≤_}
 use mathlib.Core.Path.{_≡_}
-use Rattle.net.specs.Net.{Net}
-use Rattle.net.specs.Tree.{tree}
+use Rattle.rules.specs.Net.{Net}
+use Rattle.rules.specs.Tree.{tree}
 use Rattle.frontier.specs.Cell.{Cell}
 use Rattle.frontier.specs.Frontier.{State, has, Acc, merge, acc, close, width}
 use Rattle.frontier.specs.Frontier as frontier

@@ -4,10 +4,10 @@ use states::Side;
 ghost use mathlib.Core.Path.{_≡_};
 ghost use Prim.Native.Nat.{_*_, _≤_, _<_, min};
 ghost use lib.ListN.{length};
-ghost use Rattle.net.specs.Figures.{mostEntries};
-ghost use Rattle.net.specs.Net.{netAt};
-ghost use Rattle.net.specs.Judge.{judged};
-ghost use Rattle.net.specs.Sound.{SoundNet};
+ghost use Rattle.rules.specs.Figures.{mostEntries};
+ghost use Rattle.rules.specs.Net.{netAt};
+ghost use Rattle.rules.specs.Judge.{judged};
+ghost use Rattle.rules.specs.Sound.{SoundNet};
 ghost use Rattle.states.specs.States.{modelOf, limitsOf, st, CellOk};
 ghost use Rattle.rows.specs.Rows.{slot, HasSlot, SmallAcc};
 ghost use Rattle.tables.specs.Tables.{tablesAt, Filled};
@@ -17,7 +17,7 @@ ghost use Rattle.solver.specs.Answer.{Outcome, Answered};
 // What the solver answers: the number of entries written, or why it wrote none.
 pub enum Solved {
     Placed(usize),
-    Refused(net::Refusal),
+    Refused(rules::Refusal),
 }
 
 // What is found at the source: its state, and the polarity and the surplus that reach its count.
@@ -146,10 +146,10 @@ fn answer(
     let s = at_source(c, rows, plus, minus, last, k);
     let side = s.side;
     let Side::Has(m, _, _) = side else {
-        return Solved::Refused(net::Refusal::NoLegalPlacement);
+        return Solved::Refused(rules::Refusal::NoLegalPlacement);
     };
     if columns::room(wires.len(), offsets.len()) < m {
-        return Solved::Refused(net::Refusal::NoRoom(m));
+        return Solved::Refused(rules::Refusal::NoRoom(m));
     }
     place(
         c,
@@ -362,7 +362,7 @@ fn solve_sound(
 
 // The entries of a least placement into the lent columns, or a refusal that leaves them as they came.
 pub fn solve(
-    limits: net::Limits,
+    limits: rules::Limits,
     parent: &[u16],
     wire: &[u32],
     kind: &[u8],
@@ -374,7 +374,7 @@ pub fn solve(
     ensures { λ r. ⌜ Answered (judged (netAt limits (parent .entry) (wire .entry) (kind .entry) (pin .entry) (polarity .entry))) (netAt limits (parent .entry) (wire .entry) (kind .entry) (pin .entry) (polarity .entry)) (now (wires .entry)) (now (offsets .entry)) (now (wires .exit)) (now (offsets .exit)) r ⌝ }
 {
     let verdict = net::judge(limits, parent, wire, kind, pin, polarity);
-    if let net::Judged::Refused(x) = verdict {
+    if let rules::Judged::Refused(x) = verdict {
         return Solved::Refused(x);
     }
     let c = states::cell_from(limits);

@@ -1,7 +1,7 @@
 -- The code's numbers as the frontier's.
 use Prim.Native.Nat.{ℕ, zero, suc, _+_, _-_, _≤_}
 use mathlib.Core.Path.{_≡_}
-use Rattle.net.specs.declared.Limits.{Limits}
+use Rattle.rules.specs.declared.Limits.{Limits}
 use Rattle.frontier.specs.Cell as model
 use Rattle.frontier.specs.Frontier.{State, lost, has, via, merge}
 use Rattle.states.specs.declared.Cell.{Cell}

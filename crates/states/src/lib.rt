@@ -19,7 +19,7 @@ pub enum Side {
     Has(u64, u64, u64),
 }
 
-pub fn cell_from(limits: net::Limits) -> Cell
+pub fn cell_from(limits: rules::Limits) -> Cell
     requires { ⌜ (2 * limits .pin < limits .limit) × (limits .limit ≤ 1000000) × (limits .repeater ≤ 1) ⌝ }
     ensures { λ c. ⌜ (modelOf c ≡ cellOf limits) × (limitsOf c ≡ limits) × CellOk c ⌝ }
 {

@@ -3,10 +3,10 @@ use Prim.Native.Nat.{ℕ, zero, suc, _+_, _-_, _*_, _≤_, _<_, min}
 use mathlib.Core.Path.{_≡_, refl}
 use native.Mathlib.Omega.{arith}
 use lib.ListN.{length}
-use Rattle.net.specs.Net.{Net, places, kind, pin, polarity}
-use Rattle.net.specs.Net as columns
-use Rattle.net.specs.Tree.{Hanging, none, sink, branch, hanging, under}
-use Rattle.net.specs.Sound.{SoundNet}
+use Rattle.rules.specs.Net.{Net, places, kind, pin, polarity}
+use Rattle.rules.specs.Net as columns
+use Rattle.rules.specs.Tree.{Hanging, none, sink, branch, hanging, under}
+use Rattle.rules.specs.Sound.{SoundNet}
 use Rattle.frontier.specs.Cell.{Kind, Cell}
 use Rattle.frontier.specs.Frontier.{State, lost, has, Acc, fail, all, ifz, width, wire, conv, join, closeAt, close, leaf, acc}
 use Rattle.states.specs.States.{SmallS}

@@ -6,10 +6,10 @@ use native.Mathlib.Omega.{arith}
 use native.Mathlib.Decide.{ℕ-discrete, decLt}
 use lib.ListN.{length, getD, set, length-set, replicate, getD-replicate, length-replicate}
 use lib.Seq.{getD-set-same, getD-set-other}
-use Rattle.net.specs.Net.{Net, places, parent}
-use Rattle.net.specs.Tree.{Hanging, hanging, under}
-use Rattle.net.specs.Sound.{SoundNet}
-use Rattle.net.proofs.Hanging.{hanging-skip, hanging-end}
+use Rattle.rules.specs.Net.{Net, places, parent}
+use Rattle.rules.specs.Tree.{Hanging, hanging, under}
+use Rattle.rules.specs.Sound.{SoundNet}
+use Rattle.rules.proofs.Hanging.{hanging-skip, hanging-end}
 use Rattle.frontier.specs.Cell.{Cell}
 use Rattle.frontier.specs.Frontier.{State, lost, has, Acc, fail, all, acc, join, width}
 use Rattle.rows.specs.Rows.{loadAt, accOf, slot, SmallAcc, Hung}

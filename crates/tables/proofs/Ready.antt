@@ -4,9 +4,9 @@ use mathlib.Core.Path.{_≡_, refl, sym, subst, ap, _∙_}
 use mathlib.Core.List.{List}
 use native.Mathlib.Omega.{arith}
 use lib.ListN.{length, getD}
-use Rattle.net.specs.Net.{Net, places, parent, wire, kind, pin, polarity}
-use Rattle.net.specs.Tree.{hanging, under}
-use Rattle.net.specs.Sound.{SoundNet}
+use Rattle.rules.specs.Net.{Net, places, parent, wire, kind, pin, polarity}
+use Rattle.rules.specs.Tree.{hanging, under}
+use Rattle.rules.specs.Sound.{SoundNet}
 use Rattle.frontier.specs.Cell as model
 use Rattle.frontier.specs.Frontier.{State, Acc, acc, width}
 use Rattle.states.specs.declared.Cell.{Cell}

@@ -8,12 +8,12 @@ use native.Mathlib.Decide.{ℕ-discrete}
 use lib.ListN.{length, getD}
 use lib.Dec.{eqb}
 use borrow.Author.Tests.{eq-eqb, ne-eqb}
-use Rattle.net.specs.Choose.{pick}
-use Rattle.net.specs.Net.{Net, places, parent, wire, kind, pin, polarity}
-use Rattle.net.specs.Tree.{Hanging, none, sink, branch, hung, hanging, under}
-use Rattle.net.specs.Judge.{children}
-use Rattle.net.specs.Sound.{SoundNet}
-use Rattle.net.proofs.Hanging.{hanging-take}
+use Rattle.rules.specs.Choose.{pick}
+use Rattle.rules.specs.Net.{Net, places, parent, wire, kind, pin, polarity}
+use Rattle.rules.specs.Tree.{Hanging, none, sink, branch, hung, hanging, under}
+use Rattle.rules.specs.Judge.{children}
+use Rattle.rules.specs.Sound.{SoundNet}
+use Rattle.rules.proofs.Hanging.{hanging-take}
 use Rattle.frontier.specs.Cell.{Cell}
 use Rattle.frontier.specs.Frontier.{State, Acc, acc, join, width}
 use Rattle.frontier.specs.Frontier as frontier

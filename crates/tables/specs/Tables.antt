@@ -4,8 +4,8 @@ use mathlib.Core.Path.{_≡_}
 use mathlib.Core.List.{List}
 use lib.ListN.{length, getD}
 use denote.Ref.{RefT, now}
-use Rattle.net.specs.Net.{Net, places, parent, wire, kind, pin, polarity}
-use Rattle.net.specs.Tree.{hanging, under}
+use Rattle.rules.specs.Net.{Net, places, parent, wire, kind, pin, polarity}
+use Rattle.rules.specs.Tree.{hanging, under}
 use Rattle.frontier.specs.Cell.{Cell}
 use Rattle.frontier.specs.Frontier as frontier
 use Rattle.frontier.specs.Frontier.{State, has, Acc, all, acc, width}

@@ -2,8 +2,8 @@
 use states::Cell;
 ghost use Prim.Native.Nat.{suc, _<_, _≤_};
 ghost use lib.ListN.{length};
-ghost use Rattle.net.specs.Net.{netAt};
-ghost use Rattle.net.specs.Sound.{SoundNet};
+ghost use Rattle.rules.specs.Net.{netAt};
+ghost use Rattle.rules.specs.Sound.{SoundNet};
 ghost use Rattle.states.specs.States.{modelOf, limitsOf, CellOk};
 ghost use Rattle.tables.specs.Tables.{tablesAt, Filled};
 

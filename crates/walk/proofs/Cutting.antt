@@ -5,8 +5,8 @@ use mathlib.Core.List.{List}
 use lib.ListN.{length, getD}
 use native.Mathlib.Omega.{arith}
 use native.Mathlib.Nat.{le-trans}
-use Rattle.net.specs.Net.{Net, places, parent, wire, kind, pin, polarity}
-use Rattle.net.specs.Tree.{hanging, under}
+use Rattle.rules.specs.Net.{Net, places, parent, wire, kind, pin, polarity}
+use Rattle.rules.specs.Tree.{hanging, under}
 use Rattle.frontier.specs.Cell.{Kind, buf, inv, Cell, turn}
 use Rattle.frontier.specs.Plan.{GoodW, topW}
 use Rattle.frontier.specs.Frontier.{State, lost, has, Acc, fail, all, ifz, acc, conv, close, leaf, width}

@@ -4,8 +4,8 @@ use mathlib.Core.Path.{_≡_, refl, sym, subst, ap, _∙_}
 use mathlib.Core.List.{List}
 use lib.ListN.{length, getD}
 use native.Mathlib.Omega.{arith}
-use Rattle.net.specs.Net.{Net, places, parent, wire, kind, pin, polarity}
-use Rattle.net.specs.Sound.{SoundNet}
+use Rattle.rules.specs.Net.{Net, places, parent, wire, kind, pin, polarity}
+use Rattle.rules.specs.Sound.{SoundNet}
 use Rattle.frontier.specs.Cell as model
 use Rattle.frontier.specs.Frontier.{State, lost, has, Acc, all}
 use Rattle.states.specs.declared.Cell.{Cell}

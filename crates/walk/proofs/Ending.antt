@@ -2,9 +2,9 @@
 use Prim.Native.Nat.{ℕ, _+_, _*_, _≤_}
 use mathlib.Core.Path.{_≡_, sym, subst}
 use native.Mathlib.Omega.{arith}
-use Rattle.net.specs.Net.{Net, places, wire}
-use Rattle.net.specs.Tree.{none, tree}
-use Rattle.net.proofs.Hanging.{hanging-end}
+use Rattle.rules.specs.Net.{Net, places, wire}
+use Rattle.rules.specs.Tree.{none, tree}
+use Rattle.rules.proofs.Hanging.{hanging-end}
 use Rattle.frontier.specs.Cell.{Cell}
 use Rattle.frontier.specs.Plan.{planOf, count, Settled}
 use Rattle.frontier.specs.Frontier.{has, Acc, fail, all, acc, close, width}

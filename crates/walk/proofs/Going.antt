@@ -4,10 +4,10 @@ use mathlib.Core.Path.{_≡_, refl, sym, subst, ap, _∙_}
 use mathlib.Core.List.{List}
 use native.Mathlib.Omega.{arith}
 use native.Mathlib.Decide.{ℕ-discrete}
-use Rattle.net.specs.Net.{Net, places, parent, wire, kind, pin, polarity}
-use Rattle.net.specs.Tree.{Hanging, hanging, under}
-use Rattle.net.specs.Sound.{SoundNet}
-use Rattle.net.proofs.Hanging.{hanging-skip}
+use Rattle.rules.specs.Net.{Net, places, parent, wire, kind, pin, polarity}
+use Rattle.rules.specs.Tree.{Hanging, hanging, under}
+use Rattle.rules.specs.Sound.{SoundNet}
+use Rattle.rules.proofs.Hanging.{hanging-skip}
 use Rattle.frontier.specs.Cell.{Cell}
 use Rattle.frontier.specs.Frontier.{State, lost, has, Acc, fail, all, acc, join, conv}
 use Rattle.frontier.specs.Cert.{Table}

@@ -4,9 +4,9 @@ use mathlib.Core.Path.{_≡_, refl, sym, subst, ap, _∙_}
 use mathlib.Core.List.{List}
 use native.Mathlib.Omega.{arith}
 use lib.ListN.{length}
-use Rattle.net.specs.Net.{Net, places, parent, wire, kind}
-use Rattle.net.specs.Tree.{hanging, under, tree}
-use Rattle.net.specs.Sound.{SoundNet}
+use Rattle.rules.specs.Net.{Net, places, parent, wire, kind}
+use Rattle.rules.specs.Tree.{hanging, under, tree}
+use Rattle.rules.specs.Sound.{SoundNet}
 use Rattle.frontier.specs.Cell.{Cell}
 use Rattle.frontier.specs.Frontier.{acc}
 use Rattle.cuts.specs.declared.Cut.{Cut}

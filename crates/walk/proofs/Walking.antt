@@ -3,10 +3,10 @@ use Prim.Native.Nat.{ℕ, zero, suc, _+_, _-_, _≤_, _<_, min}
 use mathlib.Core.Path.{_≡_, refl, sym, subst, ap, _∙_}
 use native.Mathlib.Omega.{arith}
 use native.Mathlib.Decide.{ℕ-discrete}
-use Rattle.net.specs.Net.{Net, places, parent, wire, kind, pin, polarity}
-use Rattle.net.specs.Tree.{Hanging, branch, hanging, under}
-use Rattle.net.specs.Sound.{SoundNet}
-use Rattle.net.proofs.Hanging.{hanging-skip}
+use Rattle.rules.specs.Net.{Net, places, parent, wire, kind, pin, polarity}
+use Rattle.rules.specs.Tree.{Hanging, branch, hanging, under}
+use Rattle.rules.specs.Sound.{SoundNet}
+use Rattle.rules.proofs.Hanging.{hanging-skip}
 use Rattle.frontier.specs.Cell.{Cell}
 use Rattle.frontier.specs.Frontier.{State, has, Acc, all, acc, join, conv}
 use Rattle.frontier.specs.Cert.{Table, sum, Ok}

@@ -3,8 +3,8 @@ use Prim.Native.Nat.{ℕ, zero, suc, _+_, _-_, _*_, _≤_, _<_, min}
 use mathlib.Core.Path.{_≡_}
 use mathlib.Core.List.{List}
 use lib.ListN.{length, getD}
-use Rattle.net.specs.Net.{Net, places, parent, wire, kind, pin, polarity}
-use Rattle.net.specs.Tree.{hanging, under, tree}
+use Rattle.rules.specs.Net.{Net, places, parent, wire, kind, pin, polarity}
+use Rattle.rules.specs.Tree.{hanging, under, tree}
 use Rattle.frontier.specs.Cell.{Cell, turn}
 use Rattle.frontier.specs.Plan.{planOf, count, GoodW, topW, Settled}
 use Rattle.frontier.specs.Frontier.{State, has, Acc, fail, all, acc, conv, close, width}

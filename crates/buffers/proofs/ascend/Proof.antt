@@ -2,7 +2,7 @@
 use native.Mathlib.Omega.{arith}
 use Prim.Native.Nat.{suc, _-_}
 use mathlib.Core.Path.{_≡_, refl, _∙_}
-use Rattle.net.specs.Net.{net}
+use Rattle.rules.specs.Net.{net}
 use Rattle.states.specs.States.{modelOf, limitsOf}
 use Rattle.buffers.specs.Going.{leadsIn, tables, cannot}
 use Rattle.buffers.proofs.Ascending.{Way, tried-true, tried-false}

@@ -3,7 +3,7 @@ use Prim.Native.Nat.{_≤_, _<_, _-_}
 use mathlib.Core.Path.{refl}
 use native.Mathlib.Omega.{arith}
 use lib.ListN.{length, getD}
-use Rattle.net.specs.Figures.{mostPlaces}
+use Rattle.rules.specs.Figures.{mostPlaces}
 use Rattle.load.proofs.Parts.{offsetsTo, offsets-all}
 use Rattle.load.proofs.Wire.{wire-within}
 use Rattle.checker.specs.Parity.{Counted}

@@ -5,10 +5,10 @@ use native.Mathlib.Omega.{arith}
 use native.Mathlib.Numerals.{add-one}
 use borrow.Author.Tests.{not-true, not-false}
 use lib.ListN.{length, drop}
-use Rattle.net.specs.Net.{Net}
-use Rattle.net.specs.Load.{entries}
-use Rattle.net.specs.Legal.{start}
-use Rattle.net.specs.Checked.{placedFrom}
+use Rattle.rules.specs.Net.{Net}
+use Rattle.rules.specs.Load.{entries}
+use Rattle.rules.specs.Legal.{start}
+use Rattle.rules.specs.Checked.{placedFrom}
 use Rattle.checker.specs.Stands.{HasWires}
 use Rattle.checker.proofs.Walks.{stood-uneven, stood-many, stood-fits, placed-next, placed-stop, placed-end}
 use Rattle.checker.proofs.entries_stand.Statement.{statement}

@@ -4,9 +4,9 @@ use mathlib.Core.Path.{_≡_, refl, sym, _∙_}
 use native.Mathlib.Omega.{arith}
 use native.Mathlib.Numerals.{add-one}
 use lib.ListN.{length, drop}
-use Rattle.net.specs.Net.{net}
-use Rattle.net.specs.Load.{entries, offsetsOn, driven}
-use Rattle.net.specs.Checked.{withinLimit}
+use Rattle.rules.specs.Net.{net}
+use Rattle.rules.specs.Load.{entries, offsetsOn, driven}
+use Rattle.rules.specs.Checked.{withinLimit}
 use Rattle.load.proofs.Wire.{driven-length}
 use Rattle.checker.proofs.Walks.{within-next, within-stop, within-end}
 use Rattle.checker.proofs.entries_within_limit.Statement.{statement}

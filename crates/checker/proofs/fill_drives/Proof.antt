@@ -2,8 +2,8 @@
 use Prim.Native.Nat.{_≤_, _-_}
 use native.Mathlib.Omega.{arith}
 use lib.ListN.{length}
-use Rattle.net.specs.Net.{net}
-use Rattle.net.specs.Load.{entries, offsetsOn, driven}
+use Rattle.rules.specs.Net.{net}
+use Rattle.rules.specs.Load.{entries, offsetsOn, driven}
 use Rattle.load.proofs.Wire.{driven-length}
 use Rattle.checker.proofs.Stored.{Stored, stored-none, stored-more, stored-all}
 use Rattle.checker.proofs.fill_drives.Statement.{statement}

@@ -3,8 +3,8 @@ use Prim.Native.Nat.{_≤_, _-_}
 use mathlib.Core.Path.{_≡_, refl, sym, _∙_}
 use native.Mathlib.Omega.{arith}
 use lib.ListN.{length}
-use Rattle.net.specs.Net.{Net}
-use Rattle.net.specs.Checked.{firstSink}
+use Rattle.rules.specs.Net.{Net}
+use Rattle.rules.specs.Checked.{firstSink}
 use Rattle.checker.proofs.Walks.{sink-here, sink-later, sink-none}
 use Rattle.checker.proofs.first_sink.Statement.{statement}
 use Rattle.checker.proofs.first_sink.Tie as tie

@@ -4,9 +4,9 @@ use mathlib.Core.Path.{refl, sym, _∙_}
 use mathlib.Core.Logic.{⊎-elim}
 use native.Mathlib.Omega.{arith}
 use lib.ListN.{length, getD}
-use Rattle.net.specs.declared.Limits.{Limits}
-use Rattle.net.specs.Net.{net}
-use Rattle.net.specs.Load.{entries, offsetsOn}
+use Rattle.rules.specs.declared.Limits.{Limits}
+use Rattle.rules.specs.Net.{net}
+use Rattle.rules.specs.Load.{entries, offsetsOn}
 use Rattle.checker.specs.Parity.{Turned}
 use Rattle.checker.proofs.Senses.{Senses, senses-start, senses-other, senses-same, senses-differ, senses-end, sum-most, none-to-judge, against-lowest}
 use Rattle.checker.proofs.one_sense.Statement.{statement}

@@ -3,10 +3,10 @@ use Prim.Native.Nat.{_≤_, _<_, _-_}
 use mathlib.Core.Path.{_≡_, refl}
 use native.Mathlib.Omega.{arith}
 use lib.ListN.{length, getD}
-use Rattle.net.specs.declared.Limits.{Limits}
-use Rattle.net.specs.Net.{net}
-use Rattle.net.specs.Load.{entries, offsetsOn}
-use Rattle.net.specs.Sound.{SoundNet}
+use Rattle.rules.specs.declared.Limits.{Limits}
+use Rattle.rules.specs.Net.{net}
+use Rattle.rules.specs.Load.{entries, offsetsOn}
+use Rattle.rules.specs.Sound.{SoundNet}
 use Rattle.checker.specs.Parity.{Counted, Turned}
 use Rattle.checker.proofs.Inverters.{turned-none, counted-none, above-most, own-most, counted-more, turned-more}
 use Rattle.checker.proofs.turns.Statement.{statement}

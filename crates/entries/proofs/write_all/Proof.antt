@@ -5,7 +5,7 @@ use mathlib.Core.Path.{sym, ap, _∙_}
 use lib.ListN.{length, replicate}
 use lib.Seq.{sets}
 use borrow.Author.Needs.{needs}
-use Rattle.net.specs.Net.{net}
+use Rattle.rules.specs.Net.{net}
 use Rattle.states.specs.States.{modelOf, limitsOf}
 use Rattle.walk.specs.Walk.{belowAt, spacedAt, toppedAt, offsOf}
 use Rattle.cuts.specs.Offsets.{offsets}

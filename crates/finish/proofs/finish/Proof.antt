@@ -1,9 +1,9 @@
 -- A refusal of the judgement is handed on; else the answer is the inner one's.
 use mathlib.Core.Path.{sym, subst, ap, _∙_}
-use Rattle.net.specs.declared.Limits.{Limits}
-use Rattle.net.specs.Net.{Net, netAt}
-use Rattle.net.specs.Load.{entries}
-use Rattle.net.specs.Sound.{SoundNet}
+use Rattle.rules.specs.declared.Limits.{Limits}
+use Rattle.rules.specs.Net.{Net, netAt}
+use Rattle.rules.specs.Load.{entries}
+use Rattle.rules.specs.Sound.{SoundNet}
 use Rattle.finish.specs.Given.{Stood}
 use Rattle.finish.specs.Answer.{halfJudged}
 use Rattle.finish.proofs.Judging.{half-sound, refused, answered}

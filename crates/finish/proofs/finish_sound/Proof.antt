@@ -1,7 +1,7 @@
 -- The tables begin cleared; what the way up says of every node decides the answer.
 use native.Mathlib.Omega.{arith}
-use Rattle.net.specs.Figures.{mostPlaces}
-use Rattle.net.specs.Net.{net}
+use Rattle.rules.specs.Figures.{mostPlaces}
+use Rattle.rules.specs.Net.{net}
 use Rattle.states.specs.States.{modelOf, limitsOf}
 use Rattle.buffers.specs.Going.{leadsIn}
 use Rattle.buffers.proofs.Ascending.{tried-true, tried-false}

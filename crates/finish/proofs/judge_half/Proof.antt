@@ -1,7 +1,7 @@
 -- Each judgement is passed on in its order.
 use mathlib.Core.Path.{sym, _∙_}
-use Rattle.net.specs.Net.{netAt}
-use Rattle.net.proofs.SoundSays.{sound-says}
+use Rattle.rules.specs.Net.{netAt}
+use Rattle.rules.proofs.SoundSays.{sound-says}
 use Rattle.checker.proofs.Weighing.{has-wires}
 use Rattle.finish.proofs.Judging.{half-own, half-type, half-rest}
 use borrow.Author.Needs.{needs}

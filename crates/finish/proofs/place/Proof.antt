@@ -2,7 +2,7 @@
 use native.Mathlib.Omega.{arith}
 use Prim.Native.Nat.{ℕ}
 use mathlib.Core.Path.{refl, ap}
-use Rattle.net.specs.declared.Refusal.the-variants.{NoRoom}
+use Rattle.rules.specs.declared.Refusal.the-variants.{NoRoom}
 use Rattle.finish.specs.declared.Finished.the-variants.{Added, Refused}
 use Rattle.finish.specs.Given.{short, fits}
 use borrow.Author.Needs.{needs}

@@ -7,7 +7,7 @@ use lib.ListN.{replicate, length-replicate, length-take}
 use lib.Seq.{length-take-le}
 use denote.Ref.{now}
 use borrow.Author.Needs.{needs}
-use Rattle.net.specs.Net.{Net, netAt}
+use Rattle.rules.specs.Net.{Net, netAt}
 use Rattle.finish.proofs.Determined.{added-fits}
 use Rattle.finish_runs.proofs.finish_given.Statement.{statement}
 use Rattle.finish_runs.proofs.finish_given.Tie as tie

@@ -8,7 +8,7 @@ use native.Mathlib.Omega.{arith}
 use borrow.Fn.Kinds.{In}
 use borrow.Fn.PlainCycle.{Measures, is, falls, and}
 use lib.ListN.{length}
-use Rattle.net.specs.Net.{Net}
+use Rattle.rules.specs.Net.{Net}
 use Rattle.load.specs.Asks.{AsksNode}
 use Rattle.load.proofs.Bound.{load-most}
 use Rattle.load.proofs.Parts.{handed-shut, handed-open, open-branch, own-most}

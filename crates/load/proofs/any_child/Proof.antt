@@ -5,7 +5,7 @@ use mathlib.Core.Bool.{false}
 use mathlib.Core.Logic.{⊎-elim}
 use native.Mathlib.Omega.{arith}
 use native.Mathlib.Decide.{ℕ-discrete}
-use Rattle.net.proofs.Tests.{never}
+use Rattle.rules.proofs.Tests.{never}
 use Rattle.load.specs.Next.{NoneFrom}
 use Rattle.load.proofs.any_child.Statement.{statement}
 use Rattle.load.proofs.any_child.Tie as tie

@@ -3,10 +3,10 @@ use mathlib.Core.Path.{refl}
 use Prim.Native.Nat.{_≤_, _-_}
 use native.Mathlib.Omega.{arith}
 use lib.ListN.{length, getD}
-use Rattle.net.specs.Net.{net}
+use Rattle.rules.specs.Net.{net}
 use Rattle.load.specs.Tables.{Parts}
 use Rattle.load.proofs.Parts.{offsetsTo, offsets-all, parts-cut}
-use Rattle.net.specs.Load.{entries}
+use Rattle.rules.specs.Load.{entries}
 use Rattle.load.proofs.Wire.{wire-within, offset-within}
 use Rattle.load.proofs.cut_parts.Statement.{statement}
 use Rattle.load.proofs.cut_parts.Tie as tie

@@ -5,8 +5,8 @@ use mathlib.Core.List.{List}
 use mathlib.Core.Bool.{true, false}
 use native.Mathlib.Omega.{arith}
 use lib.ListN.{getD}
-use Rattle.net.specs.Net.{Net, net}
-use Rattle.net.specs.Load.{entries, offsetsOn}
+use Rattle.rules.specs.Net.{Net, net}
+use Rattle.rules.specs.Load.{entries, offsetsOn}
 use Rattle.load.specs.Asks.{Stacked, AsksNode}
 use Rattle.load.proofs.Bound.{load-most}
 use Rattle.load.proofs.Scan.{load-sink}

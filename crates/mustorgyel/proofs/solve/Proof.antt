@@ -5,7 +5,7 @@ use mathlib.Core.Path.{sym}
 use mathlib.Core.List.{List}
 use lib.ListN.{replicate, length-replicate}
 use borrow.Author.Needs.{needs}
-use Rattle.net.specs.Net.{Net, netAt}
+use Rattle.rules.specs.Net.{Net, netAt}
 use Rattle.solver.specs.Answer.{Outcome}
 use Rattle.mustorgyel.specs.Printed.{placed}
 use Rattle.mustorgyel.proofs.Solving.{Places, outcome, places, prints-refusal}

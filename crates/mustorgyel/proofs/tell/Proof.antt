@@ -7,8 +7,8 @@ use lib.ListN.{length, take, replicate, length-replicate}
 use lib.Seq.{sets, length-sets}
 use denote.Ref.{now}
 use borrow.Author.Needs.{needs}
-use Rattle.net.specs.Net.{Net, netAt}
-use Rattle.net.specs.Load.{entries, offsetsOn, driven, sourceDrives}
+use Rattle.rules.specs.Net.{Net, netAt}
+use Rattle.rules.specs.Load.{entries, offsetsOn, driven, sourceDrives}
 use Rattle.checker.specs.declared.Listed.the-variants.{Driven}
 use Rattle.answer.specs.Text.{answerText}
 use Rattle.answer.proofs.Laying.{laid-as}

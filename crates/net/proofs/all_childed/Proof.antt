@@ -4,8 +4,8 @@ use mathlib.Core.Path.{sym, _∙_}
 use lib.ListN.{getD}
 use native.Mathlib.Omega.{arith}
 use borrow.Author.Needs.{needs}
-use Rattle.net.specs.Judge.{hasChild}
-use Rattle.net.proofs.Each.{Going, going-start, going-stop, going-next, going-end}
+use Rattle.rules.specs.Judge.{hasChild}
+use Rattle.rules.proofs.Each.{Going, going-start, going-stop, going-next, going-end}
 use Rattle.net.proofs.all_childed.Statement.{statement}
 use Rattle.net.proofs.all_childed.Tie as tie
 

@@ -2,7 +2,7 @@
 use mathlib.Core.Path.{sym, _∙_}
 use native.Mathlib.Omega.{arith}
 use borrow.Author.Tests.{not-true, not-false}
-use Rattle.net.specs.Net.{netAt}
+use Rattle.rules.specs.Net.{netAt}
 use Rattle.net.specs.Counted.{Level}
 use Rattle.net.proofs.Judging.{level, tallied-start, childed-is, judged-columns, judged-limits, judged-source, judged-nodes, judged-last}
 use borrow.Author.Needs.{needs}

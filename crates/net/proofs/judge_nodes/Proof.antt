@@ -4,10 +4,10 @@ use mathlib.Core.Path.{sym, _∙_}
 use lib.ListN.{length}
 use native.Mathlib.Omega.{arith}
 use borrow.Author.Needs.{needs}
-use Rattle.net.specs.Net.{net, places}
-use Rattle.net.specs.Judge.{nodeJudged}
+use Rattle.rules.specs.Net.{net, places}
+use Rattle.rules.specs.Judge.{nodeJudged}
 use Rattle.net.specs.Counted.{Tallied}
-use Rattle.net.proofs.Each.{Going, going-start, going-stop, going-next, going-end}
+use Rattle.rules.proofs.Each.{Going, going-start, going-stop, going-next, going-end}
 use Rattle.net.proofs.Judging.{admit-is, admit-sound, tallied-after, nodes-refused, nodes-sound}
 use Rattle.net.proofs.judge_nodes.Statement.{statement}
 use Rattle.net.proofs.judge_nodes.Tie as tie

@@ -1,7 +1,7 @@
 -- `fill` copies the first n places: what is left of them says what is still to be laid.
 use Prim.Native.Nat.{_-_}
 use native.Mathlib.Omega.{arith}
-use Rattle.net.specs.Net.{net, node}
+use Rattle.rules.specs.Net.{net, node}
 use Rattle.net.specs.Counted.{unlimited}
 use Rattle.net_file.proofs.Filling.{Copying, copy-start, copy-next, copy-end}
 use Rattle.net_file.proofs.fill.Statement.{statement}

@@ -4,7 +4,7 @@ use denote.Ref.{now}
 use native.Mathlib.Omega.{arith}
 use mathlib.Core.Path.{sym, ap, _∙_}
 use borrow.Author.Needs.{needs}
-use Rattle.net.specs.Net.{Net, net}
+use Rattle.rules.specs.Net.{Net, net}
 use Rattle.net.specs.Counted.{unlimited}
 use Rattle.net_file.proofs.Judging.{Judging, start, stop-wrong, stop-end, ends, stop-node, fits, next-node}
 use Rattle.net_file.proofs.Filling.{Filling, fill-start, fill-next, fill-last, own-places}

@@ -4,7 +4,7 @@ use native.Mathlib.Omega.{arith}
 use mathlib.Core.Path.{refl, ap, _∙_}
 use lib.ListN.{length}
 use borrow.Author.Needs.{needs}
-use Rattle.net.specs.Net.{net, node}
+use Rattle.rules.specs.Net.{net, node}
 use Rattle.net.specs.Counted.{unlimited}
 use Rattle.field.specs.declared.Value.{Value}
 use Rattle.field.specs.Format.{bytesOf}

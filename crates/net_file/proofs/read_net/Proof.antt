@@ -4,7 +4,7 @@ use denote.Ref.{now}
 use native.Mathlib.Omega.{arith}
 use lib.ListN.{length-replicate}
 use borrow.Author.Needs.{needs}
-use Rattle.net.specs.Net.{netAt}
+use Rattle.rules.specs.Net.{netAt}
 use Rattle.net.specs.Counted.{unlimited}
 use Rattle.net_file.proofs.Reading.{read-refused, read-few, read-short, read-whole}
 use Rattle.net_file.proofs.read_net.Statement.{statement}

@@ -3,7 +3,7 @@ use denote.Ref.{now}
 use native.Mathlib.Omega.{arith}
 use mathlib.Core.Path.{sym, _∙_}
 use borrow.Author.Needs.{needs}
-use Rattle.net.specs.Net.{netAt}
+use Rattle.rules.specs.Net.{netAt}
 use Rattle.net_file.proofs.Written.{level, wrote-refused, wrote-short, wrote-whole}
 use Rattle.net_file.proofs.write_net.Statement.{statement}
 use Rattle.net_file.proofs.write_net.Tie as tie

@@ -3,7 +3,7 @@ use Prim.Native.Nat.{_-_}
 use mathlib.Core.Path.{sym, _∙_}
 use native.Mathlib.Omega.{arith}
 use borrow.Author.Needs.{needs}
-use Rattle.net.proofs.Each.{Going, going-start, going-stop, going-next, going-end}
+use Rattle.rules.proofs.Each.{Going, going-start, going-stop, going-next, going-end}
 use Rattle.placement_file.specs.File.{rangeJudged}
 use Rattle.placement_file.proofs.Judging.{range-is}
 use Rattle.placement_file.proofs.judge_ranges.Statement.{statement}

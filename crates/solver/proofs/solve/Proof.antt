@@ -1,10 +1,10 @@
 -- The judge's refusal is handed on; of a sound net the answer is the inner one's.
 use mathlib.Core.Path.{sym, subst, _∙_}
 use borrow.Author.Needs.{needs}
-use Rattle.net.specs.declared.Limits.{Limits}
-use Rattle.net.specs.Net.{netAt}
-use Rattle.net.specs.Sound.{SoundNet}
-use Rattle.net.proofs.SoundSays.{sound-says}
+use Rattle.rules.specs.declared.Limits.{Limits}
+use Rattle.rules.specs.Net.{netAt}
+use Rattle.rules.specs.Sound.{SoundNet}
+use Rattle.rules.proofs.SoundSays.{sound-says}
 use Rattle.solver.proofs.Answering.{refused, answered}
 use Rattle.solver.proofs.solve.Statement.{statement}
 use Rattle.solver.proofs.solve.Tie as tie

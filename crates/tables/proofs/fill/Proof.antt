@@ -4,7 +4,7 @@ use Prim.Native.Nat.{suc, _-_, _≤_}
 use mathlib.Core.Path.{_≡_, _∙_}
 use lib.ListN.{length}
 use borrow.Author.Needs.{needs}
-use Rattle.net.specs.Net.{net}
+use Rattle.rules.specs.Net.{net}
 use Rattle.states.specs.States.{modelOf, limitsOf}
 use Rattle.tables.specs.Tables.{tables, Filled}
 use Rattle.tables.proofs.Filling.{Same}

@@ -3,7 +3,7 @@ use native.Mathlib.Omega.{arith}
 use Prim.Native.Nat.{ℕ, _≤_}
 use mathlib.Core.Path.{_≡_, refl, sym, subst}
 use borrow.Author.Needs.{needs}
-use Rattle.net.specs.Net.{netAt}
+use Rattle.rules.specs.Net.{netAt}
 use Rattle.states.specs.States.{modelOf, limitsOf}
 use Rattle.walk.specs.Walk.{Decided}
 use Rattle.walk.proofs.Deciding.{own-fit, next-fit, parts-at, load-small, more-small, count-small, next-loads, extra-few, meets-plus, meets-minus, cut-plus, cut-minus}

@@ -3,7 +3,7 @@ use native.Mathlib.Omega.{arith}
 use Prim.Native.Nat.{_-_}
 use lib.ListN.{length}
 use borrow.Author.Needs.{needs}
-use Rattle.net.specs.Net.{net}
+use Rattle.rules.specs.Net.{net}
 use Rattle.states.specs.States.{modelOf, limitsOf}
 use Rattle.walk.proofs.UnderWay.{Way, way-start, lower, within, way-parts, way-sense, way-more, way-end}
 use Rattle.walk.proofs.descend.Statement.{statement}

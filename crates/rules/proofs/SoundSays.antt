@@ -8,18 +8,18 @@ use native.Mathlib.Decide.{ℕ-discrete, decLt}
 use lib.ListN.{length, getD, List·getD-eq-default}
 use lib.Dec.{eqb, ltb, leb}
 use borrow.Author.Tests.{eqb-true, ltb-true, leb-true, eq-eqb, ne-eqb}
-use Rattle.net.specs.declared.Limits.{Limits}
-use Rattle.net.specs.declared.Node.{Node}
-use Rattle.net.specs.declared.Judged.{Judged}
-use Rattle.net.specs.declared.Judged.the-variants.{Sound, Refused}
-use Rattle.net.specs.declared.Refusal.the-variants.{OutOfRange, WrongParent, Childless, WrongColumns}
-use Rattle.net.specs.Figures.{mostLimit, mostWire, mostPin, mostNodes, mostPlaces, mostChildren}
-use Rattle.net.specs.Choose.{pick, both}
-use Rattle.net.specs.Net.{Net, places, parent, wire, kind, pin, polarity, node}
-use Rattle.net.specs.Judge.{unless, thenJudge, columnsFit, limitsInRange, sourceClear, endInRange, nodeInRange, children, parentFits, nodeJudged, nodesJudged, hasChild, childed, judged}
-use Rattle.net.specs.Sound.{SoundNet}
-use Rattle.net.proofs.Tests.{both-met, unless-met, then-met}
-use Rattle.net.proofs.Each.{each-met}
+use Rattle.rules.specs.declared.Limits.{Limits}
+use Rattle.rules.specs.declared.Node.{Node}
+use Rattle.rules.specs.declared.Judged.{Judged}
+use Rattle.rules.specs.declared.Judged.the-variants.{Sound, Refused}
+use Rattle.rules.specs.declared.Refusal.the-variants.{OutOfRange, WrongParent, Childless, WrongColumns}
+use Rattle.rules.specs.Figures.{mostLimit, mostWire, mostPin, mostNodes, mostPlaces, mostChildren}
+use Rattle.rules.specs.Choose.{pick, both}
+use Rattle.rules.specs.Net.{Net, places, parent, wire, kind, pin, polarity, node}
+use Rattle.rules.specs.Judge.{unless, thenJudge, columnsFit, limitsInRange, sourceClear, endInRange, nodeInRange, children, parentFits, nodeJudged, nodesJudged, hasChild, childed, judged}
+use Rattle.rules.specs.Sound.{SoundNet}
+use Rattle.rules.proofs.Tests.{both-met, unless-met, then-met}
+use Rattle.rules.proofs.Each.{each-met}
 
 -- ---- one node
 

@@ -4,10 +4,10 @@ use mathlib.Core.List.{List, [], _∷_, _++_}
 use lib.ListN.{length}
 use lib.Dec.{eqb}
 use denote.Ref.{RefT, now}
-use Rattle.net.specs.declared.Entry.{Entry}
-use Rattle.net.specs.Choose.{pick}
-use Rattle.net.specs.Net.{Net, places, wire, kind, pin}
-use Rattle.net.specs.Tree.{Hanging, none, sink, branch, under}
+use Rattle.rules.specs.declared.Entry.{Entry}
+use Rattle.rules.specs.Choose.{pick}
+use Rattle.rules.specs.Net.{Net, places, wire, kind, pin}
+use Rattle.rules.specs.Tree.{Hanging, none, sink, branch, under}
 
 -- "A placement in memory is two columns, wire and offset": the entries that they hold
 unfoldable pub entries : List ℕ → List ℕ → List Entry

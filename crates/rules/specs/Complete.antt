@@ -5,10 +5,10 @@ use mathlib.Core.Bool.{Bool}
 use mathlib.Core.List.{List, [], _∷_}
 use lib.ListN.{length}
 use lib.Dec.{eqb}
-use Rattle.net.specs.declared.Entry.{Entry}
-use Rattle.net.specs.Choose.{pick, both}
-use Rattle.net.specs.Net.{Net}
-use Rattle.net.specs.Legal.{Legal}
+use Rattle.rules.specs.declared.Entry.{Entry}
+use Rattle.rules.specs.Choose.{pick, both}
+use Rattle.rules.specs.Net.{Net}
+use Rattle.rules.specs.Legal.{Legal}
 
 -- the whole is the given ones and the added ones, each in its own order: no other, and none left out
 pub data Joins {A : Type 0} : List A → List A → List A → Type 0 where

@@ -2,11 +2,11 @@
 use Prim.Native.Nat.{ℕ, _≤_}
 use mathlib.Core.Path.{_≡_, refl}
 use native.Mathlib.Omega.{arith}
-use Rattle.net.specs.declared.Refusal.{Refusal}
-use Rattle.net.specs.declared.Refusal.the-variants.{FileEnds, NotDue, OutOfRange, WrongParent, Childless, BytesAfterEnd, WrongColumns, NoLegalPlacement, NoRoom, Misplaced, Overloaded, WrongParity, NotEased}
-use Rattle.net.specs.declared.Judged.{Judged}
-use Rattle.net.specs.declared.Judged.the-variants.{Sound, Refused}
-use Rattle.net.specs.Refusal.{numberOf, judgedNumber}
+use Rattle.rules.specs.declared.Refusal.{Refusal}
+use Rattle.rules.specs.declared.Refusal.the-variants.{FileEnds, NotDue, OutOfRange, WrongParent, Childless, BytesAfterEnd, WrongColumns, NoLegalPlacement, NoRoom, Misplaced, Overloaded, WrongParity, NotEased}
+use Rattle.rules.specs.declared.Judged.{Judged}
+use Rattle.rules.specs.declared.Judged.the-variants.{Sound, Refused}
+use Rattle.rules.specs.Refusal.{numberOf, judgedNumber}
 
 pub numbered : (r : Refusal) → 1 ≤ numberOf r
 numbered (FileEnds p) = omega arith

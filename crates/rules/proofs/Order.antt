@@ -6,15 +6,15 @@ use lib.ListN.{length}
 use native.Mathlib.Omega.{arith}
 use native.Mathlib.Decide.{ℕ-discrete}
 use borrow.Author.Tests.{eq-eqb, ne-eqb}
-use Rattle.net.specs.declared.Entry.{Entry}
-use Rattle.net.specs.Net.{Net, places, wire}
-use Rattle.net.specs.Tree.{tree}
-use Rattle.net.specs.Load.{offsetsOn}
-use Rattle.net.specs.Legal.{After, higher, further, InOrder, start}
-use Rattle.net.specs.Sound.{SoundNet}
-use Rattle.net.specs.Sum.{sumFrom, sumOver}
-use Rattle.net.proofs.EachWireOnce.{each-wire-once}
-use Rattle.net.proofs.Counting.{hit, hit-same, hit-other, hits-one}
+use Rattle.rules.specs.declared.Entry.{Entry}
+use Rattle.rules.specs.Net.{Net, places, wire}
+use Rattle.rules.specs.Tree.{tree}
+use Rattle.rules.specs.Load.{offsetsOn}
+use Rattle.rules.specs.Legal.{After, higher, further, InOrder, start}
+use Rattle.rules.specs.Sound.{SoundNet}
+use Rattle.rules.specs.Sum.{sumFrom, sumOver}
+use Rattle.rules.proofs.EachWireOnce.{each-wire-once}
+use Rattle.rules.proofs.Counting.{hit, hit-same, hit-other, hits-one}
 
 -- the offsets rise from `at` on, to at most w
 abbrev pub Rising : ℕ → ℕ → List ℕ → Type 0

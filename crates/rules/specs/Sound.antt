@@ -2,9 +2,9 @@
 use Prim.Native.Nat.{ℕ, _-_, _*_, _≤_, _<_}
 use mathlib.Core.Path.{_≡_}
 use lib.ListN.{length}
-use Rattle.net.specs.Figures.{mostLimit, mostWire, mostPin, mostPlaces, mostChildren}
-use Rattle.net.specs.Net.{Net, places, parent, wire, kind, pin, polarity}
-use Rattle.net.specs.Judge.{children}
+use Rattle.rules.specs.Figures.{mostLimit, mostWire, mostPin, mostPlaces, mostChildren}
+use Rattle.rules.specs.Net.{Net, places, parent, wire, kind, pin, polarity}
+use Rattle.rules.specs.Judge.{children}
 
 pub record SoundNet (n : Net) : Type 0 where
   -- the columns are equal, not empty, and have at most 1,025 places

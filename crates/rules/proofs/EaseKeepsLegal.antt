@@ -8,14 +8,14 @@ use native.Mathlib.Nat.{le-trans}
 use native.Mathlib.Omega.{arith}
 use native.Mathlib.Decide.{ℕ-discrete}
 use borrow.Author.Tests.{eq-eqb, ne-eqb}
-use Rattle.net.specs.declared.Entry.{Entry}
-use Rattle.net.specs.Net.{Net, places, parent, wire, kind, pin, polarity}
-use Rattle.net.specs.Tree.{Hanging, hanging, hung}
-use Rattle.net.specs.Load.{offsetsOn, drives, handsUp, handedBy, loadBelow, drivenOn, joined, driven, drivers}
-use Rattle.net.specs.Legal.{Each, After, higher, further, Stands, InOrder, start, onTheWay, inverters, Sink, sense, OneSense, Legal, Least, NoneLegal}
-use Rattle.net.specs.Ease.{Eases, cut, carried}
-use Rattle.net.proofs.Order.{Rising, in-order-rises}
-use Rattle.net.proofs.EachLoad.{each-append, each-first, each-last, each-joined, joined-each}
+use Rattle.rules.specs.declared.Entry.{Entry}
+use Rattle.rules.specs.Net.{Net, places, parent, wire, kind, pin, polarity}
+use Rattle.rules.specs.Tree.{Hanging, hanging, hung}
+use Rattle.rules.specs.Load.{offsetsOn, drives, handsUp, handedBy, loadBelow, drivenOn, joined, driven, drivers}
+use Rattle.rules.specs.Legal.{Each, After, higher, further, Stands, InOrder, start, onTheWay, inverters, Sink, sense, OneSense, Legal, Least, NoneLegal}
+use Rattle.rules.specs.Ease.{Eases, cut, carried}
+use Rattle.rules.proofs.Order.{Rising, in-order-rises}
+use Rattle.rules.proofs.EachLoad.{each-append, each-first, each-last, each-joined, joined-each}
 
 -- offsets cut to a wire of size w
 abbrev pub cutTo : ℕ → List ℕ → List ℕ

@@ -1,6 +1,6 @@
 -- Sums: of a number for each wire of a tree, and of a number for each of some numbers in a row.
 use Prim.Native.Nat.{ℕ, zero, suc, _+_}
-use Rattle.net.specs.Tree.{Hanging, none, sink, branch}
+use Rattle.rules.specs.Tree.{Hanging, none, sink, branch}
 
 unfoldable pub sumOver : (ℕ → ℕ) → Hanging → ℕ
 sumOver g none = 0

@@ -4,15 +4,15 @@ use mathlib.Core.Path.{_≡_}
 use mathlib.Core.Bool.{Bool, true, false}
 use lib.ListN.{length}
 use lib.Dec.{eqb, ltb, leb}
-use Rattle.net.specs.declared.Limits.{Limits}
-use Rattle.net.specs.declared.Node.{Node}
-use Rattle.net.specs.declared.Refusal.{Refusal}
-use Rattle.net.specs.declared.Refusal.the-variants.{OutOfRange, WrongParent, Childless, WrongColumns}
-use Rattle.net.specs.declared.Judged.{Judged}
-use Rattle.net.specs.declared.Judged.the-variants.{Sound, Refused}
-use Rattle.net.specs.Figures.{mostLimit, mostWire, mostPin, mostNodes, mostPlaces, mostChildren}
-use Rattle.net.specs.Choose.{pick, both}
-use Rattle.net.specs.Net.{Net, places, parent, wire, kind, pin, polarity, node}
+use Rattle.rules.specs.declared.Limits.{Limits}
+use Rattle.rules.specs.declared.Node.{Node}
+use Rattle.rules.specs.declared.Refusal.{Refusal}
+use Rattle.rules.specs.declared.Refusal.the-variants.{OutOfRange, WrongParent, Childless, WrongColumns}
+use Rattle.rules.specs.declared.Judged.{Judged}
+use Rattle.rules.specs.declared.Judged.the-variants.{Sound, Refused}
+use Rattle.rules.specs.Figures.{mostLimit, mostWire, mostPin, mostNodes, mostPlaces, mostChildren}
+use Rattle.rules.specs.Choose.{pick, both}
+use Rattle.rules.specs.Net.{Net, places, parent, wire, kind, pin, polarity, node}
 
 -- a refusal where a test fails, and the next judgement where there is none
 abbrev pub unless : Bool → Refusal → Judged

@@ -4,10 +4,10 @@ use mathlib.Core.Path.{_≡_, refl, ap, _∙_}
 use mathlib.Core.List.{List, [], _∷_, map}
 use native.Mathlib.Nat.{le-refl, le-trans}
 use native.Mathlib.Omega.{arith}
-use Rattle.net.specs.declared.Entry.{Entry}
-use Rattle.net.specs.Net.{Net, wire, pin}
-use Rattle.net.specs.Legal.{InOrder}
-use Rattle.net.specs.Ease.{Eases, cut, carried}
+use Rattle.rules.specs.declared.Entry.{Entry}
+use Rattle.rules.specs.Net.{Net, wire, pin}
+use Rattle.rules.specs.Legal.{InOrder}
+use Rattle.rules.specs.Ease.{Eases, cut, carried}
 
 pub eases-itself : (n : Net) → Eases n n
 eases-itself n = record {

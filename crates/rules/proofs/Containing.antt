@@ -8,13 +8,13 @@ use lib.ListN.{length}
 use lib.Dec.{eqb}
 use native.Mathlib.Omega.{arith}
 use borrow.Author.Tests.{eqb-true, eq-eqb, ne-eqb}
-use Rattle.net.specs.declared.Entry.{Entry}
-use Rattle.net.specs.Choose.{pick, both}
-use Rattle.net.specs.Net.{Net}
-use Rattle.net.specs.Legal.{After, higher, further, InOrder, start, Legal}
-use Rattle.net.specs.Complete.{Joins, end, given, added, Completes, LeastAdded, NoneCompletes, sameEntry, times, Contains}
-use Rattle.net.proofs.Tests.{both-met}
-use Rattle.net.proofs.Completing.{joins-length, all-added}
+use Rattle.rules.specs.declared.Entry.{Entry}
+use Rattle.rules.specs.Choose.{pick, both}
+use Rattle.rules.specs.Net.{Net}
+use Rattle.rules.specs.Legal.{After, higher, further, InOrder, start, Legal}
+use Rattle.rules.specs.Complete.{Joins, end, given, added, Completes, LeastAdded, NoneCompletes, sameEntry, times, Contains}
+use Rattle.rules.proofs.Tests.{both-met}
+use Rattle.rules.proofs.Completing.{joins-length, all-added}
 
 -- ---- where two entries stand to each other
 data Ahead (d e : Entry) : Type 0 where

@@ -5,12 +5,12 @@ use native.Mathlib.Omega.{arith}
 use native.Mathlib.Decide.{ℕ-discrete}
 use lib.Dec.{eqb}
 use borrow.Author.Tests.{eq-eqb, ne-eqb}
-use Rattle.net.specs.Choose.{pick}
-use Rattle.net.specs.Net.{Net, places}
-use Rattle.net.specs.Tree.{Hanging, none, sink, branch, tree}
-use Rattle.net.specs.Sound.{SoundNet}
-use Rattle.net.specs.Sum.{sumOver, sumFrom}
-use Rattle.net.proofs.EachWireOnce.{each-wire-once}
+use Rattle.rules.specs.Choose.{pick}
+use Rattle.rules.specs.Net.{Net, places}
+use Rattle.rules.specs.Tree.{Hanging, none, sink, branch, tree}
+use Rattle.rules.specs.Sound.{SoundNet}
+use Rattle.rules.specs.Sum.{sumOver, sumFrom}
+use Rattle.rules.proofs.EachWireOnce.{each-wire-once}
 
 unfoldable pub hit : ℕ → ℕ → ℕ
 hit j i = pick (eqb i j) 1 0

@@ -4,16 +4,16 @@ use mathlib.Core.Path.{_≡_}
 use mathlib.Core.List.{List, map}
 use mathlib.Core.Bool.{Bool}
 use lib.Dec.{eqb, leb}
-use Rattle.net.specs.declared.Entry.{Entry}
-use Rattle.net.specs.declared.Limits.{Limits}
-use Rattle.net.specs.declared.Node.{Node}
-use Rattle.net.specs.declared.Refusal.the-variants.{NotEased}
-use Rattle.net.specs.declared.Judged.{Judged}
-use Rattle.net.specs.declared.Judged.the-variants.{Sound}
-use Rattle.net.specs.Choose.{both}
-use Rattle.net.specs.Net.{Net, places, wire, node}
-use Rattle.net.specs.Net as columns
-use Rattle.net.specs.Judge.{unless, thenJudge, judgeEach}
+use Rattle.rules.specs.declared.Entry.{Entry}
+use Rattle.rules.specs.declared.Limits.{Limits}
+use Rattle.rules.specs.declared.Node.{Node}
+use Rattle.rules.specs.declared.Refusal.the-variants.{NotEased}
+use Rattle.rules.specs.declared.Judged.{Judged}
+use Rattle.rules.specs.declared.Judged.the-variants.{Sound}
+use Rattle.rules.specs.Choose.{both}
+use Rattle.rules.specs.Net.{Net, places, wire, node}
+use Rattle.rules.specs.Net as columns
+use Rattle.rules.specs.Judge.{unless, thenJudge, judgeEach}
 
 -- m eases n
 pub record Eases (n m : Net) : Type 0 where

@@ -7,12 +7,12 @@ use native.Mathlib.Decide.{ℕ-discrete}
 use lib.ListN.{length, getD}
 use lib.Dec.{eqb}
 use borrow.Author.Tests.{eq-eqb, ne-eqb}
-use Rattle.net.specs.Choose.{pick}
-use Rattle.net.specs.Net.{Net, places, parent, wire, kind, pin, polarity}
-use Rattle.net.specs.Tree.{Hanging, none, sink, branch, hung, hanging, tree}
-use Rattle.net.specs.Sound.{SoundNet}
-use Rattle.net.specs.Sum.{sumOver, sumFrom}
-use Rattle.net.proofs.Hanging.{sink-bare}
+use Rattle.rules.specs.Choose.{pick}
+use Rattle.rules.specs.Net.{Net, places, parent, wire, kind, pin, polarity}
+use Rattle.rules.specs.Tree.{Hanging, none, sink, branch, hung, hanging, tree}
+use Rattle.rules.specs.Sound.{SoundNet}
+use Rattle.rules.specs.Sum.{sumOver, sumFrom}
+use Rattle.rules.proofs.Hanging.{sink-bare}
 
 -- the first k of f
 firsts : (ℕ → ℕ) → ℕ → ℕ

@@ -4,16 +4,16 @@ use mathlib.Core.Bool.{Bool, true, false}
 use mathlib.Core.List.{List, [], _∷_}
 use lib.ListN.{length}
 use lib.Dec.{eqb, ltb, leb}
-use Rattle.net.specs.declared.Entry.{Entry}
-use Rattle.net.specs.declared.Refusal.the-variants.{WrongColumns, Misplaced, Overloaded, WrongParity}
-use Rattle.net.specs.declared.Judged.{Judged}
-use Rattle.net.specs.declared.Judged.the-variants.{Sound, Refused}
-use Rattle.net.specs.Figures.{mostEntries}
-use Rattle.net.specs.Choose.{pick, both}
-use Rattle.net.specs.Net.{Net, places, wire, kind}
-use Rattle.net.specs.Load.{entries, offsetsOn, drivers}
-use Rattle.net.specs.Legal.{start, sense}
-use Rattle.net.specs.Judge.{unless, thenJudge, judgeEach, judged}
+use Rattle.rules.specs.declared.Entry.{Entry}
+use Rattle.rules.specs.declared.Refusal.the-variants.{WrongColumns, Misplaced, Overloaded, WrongParity}
+use Rattle.rules.specs.declared.Judged.{Judged}
+use Rattle.rules.specs.declared.Judged.the-variants.{Sound, Refused}
+use Rattle.rules.specs.Figures.{mostEntries}
+use Rattle.rules.specs.Choose.{pick, both}
+use Rattle.rules.specs.Net.{Net, places, wire, kind}
+use Rattle.rules.specs.Load.{entries, offsetsOn, drivers}
+use Rattle.rules.specs.Legal.{start, sense}
+use Rattle.rules.specs.Judge.{unless, thenJudge, judgeEach, judged}
 
 -- 7: "placement columns unequal or over 4,096"
 abbrev pub placementFits : List ℕ → List ℕ → Bool

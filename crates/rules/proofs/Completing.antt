@@ -8,14 +8,14 @@ use lib.ListN.{length}
 use native.Mathlib.Omega.{arith}
 use native.Mathlib.Decide.{ℕ-discrete}
 use borrow.Author.Tests.{eq-eqb, ne-eqb}
-use Rattle.net.specs.declared.Entry.{Entry}
-use Rattle.net.specs.Net.{Net}
-use Rattle.net.specs.Load.{offsetsOn}
-use Rattle.net.specs.Legal.{After, InOrder, start, Legal, Least, NoneLegal}
-use Rattle.net.specs.Ease.{Eases, cut, carried}
-use Rattle.net.specs.Complete.{Joins, end, given, added, Completes, LeastAdded, NoneCompletes}
-use Rattle.net.proofs.Order.{after-after}
-use Rattle.net.proofs.EaseKeepsLegal.{ease-keeps-legal, ease-keeps-count}
+use Rattle.rules.specs.declared.Entry.{Entry}
+use Rattle.rules.specs.Net.{Net}
+use Rattle.rules.specs.Load.{offsetsOn}
+use Rattle.rules.specs.Legal.{After, InOrder, start, Legal, Least, NoneLegal}
+use Rattle.rules.specs.Ease.{Eases, cut, carried}
+use Rattle.rules.specs.Complete.{Joins, end, given, added, Completes, LeastAdded, NoneCompletes}
+use Rattle.rules.proofs.Order.{after-after}
+use Rattle.rules.proofs.EaseKeepsLegal.{ease-keeps-legal, ease-keeps-count}
 
 pub joins-length : {A : Type 0} {g a w : List A} → Joins g a w → length w ≡ length g + length a
 joins-length end = refl

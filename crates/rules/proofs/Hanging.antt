@@ -6,10 +6,10 @@ use native.Mathlib.Decide.{ℕ-discrete}
 use lib.ListN.{length, getD}
 use lib.Dec.{eqb}
 use borrow.Author.Tests.{eq-eqb, ne-eqb}
-use Rattle.net.specs.Choose.{pick}
-use Rattle.net.specs.Net.{Net, places, parent, kind}
-use Rattle.net.specs.Tree.{Hanging, none, hung, hanging}
-use Rattle.net.specs.Sound.{SoundNet}
+use Rattle.rules.specs.Choose.{pick}
+use Rattle.rules.specs.Net.{Net, places, parent, kind}
+use Rattle.rules.specs.Tree.{Hanging, none, hung, hanging}
+use Rattle.rules.specs.Sound.{SoundNet}
 
 -- one step, at node i
 pub hanging-at : (n : Net) (i v : ℕ) → i < places n

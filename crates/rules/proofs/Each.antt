@@ -4,11 +4,11 @@ use mathlib.Core.Path.{_≡_, refl, sym, ap, _∙_}
 use native.Mathlib.Omega.{arith}
 use native.Mathlib.Decide.{ℕ-discrete}
 use native.Mathlib.Numerals.{add-one}
-use Rattle.net.specs.declared.Refusal.{Refusal}
-use Rattle.net.specs.declared.Judged.{Judged}
-use Rattle.net.specs.declared.Judged.the-variants.{Sound, Refused}
-use Rattle.net.specs.Judge.{thenJudge, judgeEach}
-use Rattle.net.proofs.Tests.{then-met}
+use Rattle.rules.specs.declared.Refusal.{Refusal}
+use Rattle.rules.specs.declared.Judged.{Judged}
+use Rattle.rules.specs.declared.Judged.the-variants.{Sound, Refused}
+use Rattle.rules.specs.Judge.{thenJudge, judgeEach}
+use Rattle.rules.proofs.Tests.{then-met}
 
 -- where it ends in Sound each of them does
 pub each-met : (f : ℕ → Judged) (k i : ℕ) → judgeEach f k i ≡ Sound → (j : ℕ) → i ≤ j → j < i + k → f j ≡ Sound

@@ -3,16 +3,16 @@ use Prim.Native.Nat.{ℕ, zero, suc, _+_, _-_, _≤_}
 use mathlib.Core.Path.{_≡_, refl}
 use mathlib.Core.List.{List, [], _∷_, _++_}
 use native.Mathlib.Omega.{arith}
-use Rattle.net.specs.declared.Entry.{Entry}
-use Rattle.net.specs.declared.Judged.{Judged}
-use Rattle.net.specs.declared.Judged.the-variants.{Sound, Refused}
-use Rattle.net.specs.declared.Refusal.the-variants.{Misplaced, Overloaded, WrongParity}
-use Rattle.net.specs.Net.{Net, net}
-use Rattle.net.specs.Tree.{hanging}
-use Rattle.net.specs.Load.{offsetsOn, drives, handsUp, handedBy, loadBelow, drivenOn, joined, driven}
-use Rattle.net.specs.Legal.{Each, onTheWay, inverters, Legal, NoneLegal}
-use Rattle.net.specs.Judge.{judgeEach}
-use Rattle.net.specs.Checked.{placedFrom, withinLimit, firstSink, placementJudged}
+use Rattle.rules.specs.declared.Entry.{Entry}
+use Rattle.rules.specs.declared.Judged.{Judged}
+use Rattle.rules.specs.declared.Judged.the-variants.{Sound, Refused}
+use Rattle.rules.specs.declared.Refusal.the-variants.{Misplaced, Overloaded, WrongParity}
+use Rattle.rules.specs.Net.{Net, net}
+use Rattle.rules.specs.Tree.{hanging}
+use Rattle.rules.specs.Load.{offsetsOn, drives, handsUp, handedBy, loadBelow, drivenOn, joined, driven}
+use Rattle.rules.specs.Legal.{Each, onTheWay, inverters, Legal, NoneLegal}
+use Rattle.rules.specs.Judge.{judgeEach}
+use Rattle.rules.specs.Checked.{placedFrom, withinLimit, firstSink, placementJudged}
 
 -- one sink at the end of one wire, buffers
 abbrev alone : ℕ → ℕ → ℕ → Net

@@ -4,10 +4,10 @@ use mathlib.Core.Path.{_≡_}
 use mathlib.Core.List.{List, [], _∷_}
 use lib.ListN.{length}
 use lib.Dec.{eqb}
-use Rattle.net.specs.Choose.{pick}
-use Rattle.net.specs.declared.Entry.{Entry}
-use Rattle.net.specs.Net.{Net, places, parent, wire, kind, polarity}
-use Rattle.net.specs.Load.{offsetsOn, drivers}
+use Rattle.rules.specs.Choose.{pick}
+use Rattle.rules.specs.declared.Entry.{Entry}
+use Rattle.rules.specs.Net.{Net, places, parent, wire, kind, polarity}
+use Rattle.rules.specs.Load.{offsetsOn, drivers}
 
 -- each element of a list
 abbrev pub Each : (ℕ → Type 0) → List ℕ → Type 0

@@ -1,0 +1,14 @@
+pub mod Hanging
+pub mod EachWireOnce
+pub mod Tests
+pub mod Each
+pub mod SoundSays
+pub mod Counting
+pub mod Order
+pub mod EachLoad
+pub mod EaseKeepsLegal
+pub mod Easing
+pub mod Completing
+pub mod Containing
+pub mod Examples
+pub mod Refusals
