@@ -5,11 +5,11 @@ ghost use Prim.Native.Nat.{_<_};
 use field::Wrote;
 use libc::STDIN_FILENO;
 use libc::STDOUT_FILENO;
-use rules::Limits;
-use rules::Refusal;
 use net_file::NetRead;
 use net_file::NetWrote;
 use placement_file::PlacementRead;
+use rules::Limits;
+use rules::Refusal;
 
 fn print_read(same: bool, filled: usize) {
     if !same {

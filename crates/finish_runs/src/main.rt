@@ -10,10 +10,10 @@ use finish::Finished;
 use libc::STDERR_FILENO;
 use libc::STDIN_FILENO;
 use libc::STDOUT_FILENO;
-use rules::Limits;
-use rules::Refusal;
 use net_file::NetRead;
 use placement_file::PlacementRead;
+use rules::Limits;
+use rules::Refusal;
 
 // Room for two of the longest pairs and many short ones. An input that fills it may have been cut, so it gets no answer.
 const INPUT: usize = 131072;

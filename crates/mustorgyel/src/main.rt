@@ -2,9 +2,9 @@
 use checker::Listed;
 use libc::STDIN_FILENO;
 use libc::STDOUT_FILENO;
+use net_file::NetRead;
 use rules::Limits;
 use rules::Refusal;
-use net_file::NetRead;
 use solver::Solved;
 ghost use mathlib.Core.Path.{_≡_};
 ghost use Prim.Native.Nat.{_≤_};

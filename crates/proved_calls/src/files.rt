@@ -1,9 +1,9 @@
 // The readers and the writers of the two files.
 use field::Wrote;
-use rules::Limits;
 use net_file::NetRead;
 use net_file::NetWrote;
 use placement_file::PlacementRead;
+use rules::Limits;
 ghost use mathlib.Core.Path.{_≡_};
 ghost use Rattle.rules.specs.Net.{netAt};
 ghost use Rattle.net.specs.Counted.{unlimited};

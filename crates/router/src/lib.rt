@@ -1,8 +1,8 @@
 // The one call that the router makes, from C: is this placement file legal on this net file?
 use checker::Verdict;
-use rules::Limits;
 use net_file::NetRead;
 use placement_file::PlacementRead;
+use rules::Limits;
 ghost use mathlib.Core.Path.{_≡_};
 ghost use Prim.Native.Nat.{_≤_};
 ghost use lib.ListN.{length, take};

@@ -30,6 +30,39 @@ unfolding judgeEach
 each-same f g zero i h = refl
 each-same f g (suc k) i h = rw (h i (omega arith) (omega arith), each-same f g k (suc i) (λ j lo hi. h j (omega arith) (omega arith)))
 
+-- j is the first of k numbers from i on at which f refuses, and r is why
+pub record First (f : ℕ → Judged) (k i j : ℕ) (r : Refusal) : Type 0 where
+  pub low : i ≤ j
+  pub high : j < i + k
+  pub before : (m : ℕ) → i ≤ m → m < j → f m ≡ Sound
+  pub here : f j ≡ Refused r
+
+pub first-refused : (f : ℕ → Judged) (k i j : ℕ) {r : Refusal} → First f k i j r → judgeEach f k i ≡ Refused r
+unfolding judgeEach
+first-refused f zero i j h = absurd (omega (arith, h .low, h .high))
+first-refused f (suc k) i j {r} h = elim (ℕ-discrete i j) [
+  | yes q ↦ let e : f i ≡ Refused r = ap f q ∙ h .here in rw e
+  | no q ↦ rw (h .before i (omega arith) (omega (arith, h .low))) (first-refused f k (suc i) j (record { low = omega (arith, h .low); high = omega (arith, h .high); before = λ m lo hi. h .before m (omega arith) hi; here = h .here }))
+]
+
+pub refused-first : (f : ℕ → Judged) (k i : ℕ) {r : Refusal} → judgeEach f k i ≡ Refused r → (j : ℕ) × First f k i j r
+unfolding judgeEach
+refused-first f zero i e = absurd (let z : _≡_ {A = ℕ} 0 1 = cc in omega arith)
+refused-first f (suc k) i {r} e = go (λ g. refused-first f k (suc i) g) (f i) refl e
+  where
+    go : (judgeEach f k (suc i) ≡ Refused r → (j : ℕ) × First f k (suc i) j r) → (x : Judged) → f i ≡ x → thenJudge x (judgeEach f k (suc i)) ≡ Refused r → (j : ℕ) × First f (suc k) i j r
+    go more (Refused y) q g = (i, record { low = omega arith; high = omega arith; before = λ m lo hi. absurd (omega arith); here = q ∙ g })
+    go more Sound q g =
+        let (j, h) = more g in (
+          j,
+          record {
+            low = omega (arith, h .low);
+            high = omega (arith, h .high);
+            before = λ m lo hi. elim (ℕ-discrete m i) [ yes s ↦ ap f s ∙ q | no s ↦ h .before m (omega arith) hi ];
+            here = h .here;
+          },
+        )
+
 -- ---- a loop that has come to i: what is left decides the answer
 pub record Going (f : ℕ → Judged) (k a i : ℕ) : Type 0 where
   pub low : a ≤ i

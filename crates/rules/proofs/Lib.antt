@@ -12,3 +12,4 @@ pub mod Completing
 pub mod Containing
 pub mod Examples
 pub mod Refusals
+pub mod JudgedNumbers

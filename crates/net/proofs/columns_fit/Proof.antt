@@ -19,7 +19,7 @@ and-requires-5 : tie.Need-and-requires-5
 and-requires-5 c κs = search needs
 
 returns : tie.Need-returns
-returns c = cc
+returns c = rw (c .and5 .ensures, c .before .and4 .ensures, c .before .before .and3 .ensures, c .before .before .before .and2 .ensures, c .before .before .before .before .and .ensures)
 
 pub columns-fit-spec : {M : Type 1} → statement M
 columns-fit-spec =

@@ -8,7 +8,7 @@ and-requires : tie.Need-and-requires
 and-requires c κs = search needs
 
 returns : tie.Need-returns
-returns c = rw (eq-eqb _ _ (c .before .before .before .before .if1 .taken)) (cc)
+returns c = rw (eq-eqb _ _ (c .before .before .before .before .if1 .taken), c .and .ensures)
 
 and-requires-2 : tie.Need-and-requires-2
 and-requires-2 c κs = search needs
@@ -17,7 +17,7 @@ and-requires-3 : tie.Need-and-requires-3
 and-requires-3 c κs = search needs
 
 returns-2 : tie.Need-returns-2
-returns-2 c = rw (ne-eqb _ _ (c .before .before .before .before .before .if1 .left)) (cc)
+returns-2 c = rw (ne-eqb _ _ (c .before .before .before .before .before .if1 .left), c .and3 .ensures, c .before .and2 .ensures)
 
 pub end-in-range-spec : {M : Type 1} → statement M
 end-in-range-spec =

@@ -22,7 +22,7 @@ and-requires-3 : tie.Need-and-requires-3
 and-requires-3 c κs = search needs
 
 returns : tie.Need-returns
-returns c = cc
+returns c = rw (c .and3 .ensures, c .before .and2 .ensures, c .before .before .and .ensures)
 
 pub limits-in-range-spec : {M : Type 1} → statement M
 limits-in-range-spec =

@@ -10,7 +10,7 @@ and-requires : tie.Need-and-requires
 and-requires c κs = search needs
 
 returns : tie.Need-returns
-returns c = cc
+returns c = rw (c .and .ensures, c .before .end-in-range .ensures)
 
 pub node-in-range-spec : {M : Type 1} → statement M
 node-in-range-spec = tie.close (tie.spec end-in-range-requires and-requires returns)
