@@ -1,4 +1,4 @@
--- Document 01's example, by computing.
+-- The example of RULES 7.7, by computing.
 use mathlib.Core.Path.{_≡_, refl}
 use mathlib.Core.List.{List, [], _∷_}
 use Prim.Native.Nat.{ℕ}
@@ -17,7 +17,7 @@ large : digits 18446744073709551615 ≡ 49 ∷ 56 ∷ 52 ∷ 52 ∷ 54 ∷ 55 �
 unfolding digits higher
 large = refl
 
--- "the 29-byte file cut to 28 bytes: refusal 1 at 26"
+-- that file without its last byte
 cut : refusedLine (FileEnds 26) ≡
     114 ∷ 101 ∷ 102 ∷ 117 ∷ 115 ∷ 101 ∷ 100 ∷ 32 ∷ 49 ∷ 32 ∷ 112 ∷ 108 ∷ 97 ∷ 99 ∷ 101 ∷ 32 ∷ 50 ∷ 54 ∷ 10 ∷ []
 unfolding refusedLine said digits higher

@@ -1,4 +1,4 @@
--- Document 01, "The printed answer": each line, and the whole answer, as the bytes of its text.
+-- Each line that is printed, and the whole answer, as the bytes of its text (RULES 7.3 to 7.6).
 use Prim.Native.Nat.{ℕ, zero, suc, _+_, _/_, _%_, _≤_}
 use mathlib.Core.Path.{_≡_}
 use mathlib.Core.List.{List, [], _∷_, _++_}
@@ -57,7 +57,7 @@ said word n = word ++ digits n
 unfoldable pub leastLine : ℕ → List ℕ
 leastLine n = said least n ++ end
 
--- `wire W offset O drives L`: "one line an entry (wire number, offset, load)"
+-- `wire W offset O drives L`
 unfoldable pub entryLine : ℕ → ℕ → ℕ → List ℕ
 entryLine w o l = ((said wire w ++ said offset o) ++ said drives l) ++ end
 

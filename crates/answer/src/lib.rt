@@ -1,4 +1,4 @@
-// The lines of the printed answer: document 01, "The printed answer".
+// The lines of the printed answer (RULES 7).
 ghost use mathlib.Core.Path.{_≡_};
 ghost use Prim.Native.Nat.{_+_, _*_, _≤_};
 ghost use lib.ListN.{length, take};
@@ -141,12 +141,4 @@ pub fn put_answer(
     let first = put_line(out, 0, least_line(wires.len() as u64));
     let after = put_entries(out, first, wires, offsets, loads);
     put_line(out, after, source_line(source))
-}
-
-// Writes the line of a refusal to a descriptor, for programs that have no other text to lay.
-pub fn print_refused(to: i32, why: Refusal) {
-    let line = refused_line(why);
-    let text = line.text;
-    let bytes = line.bytes;
-    io::write_all(to, &text[..bytes]);
 }

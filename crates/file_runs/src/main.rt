@@ -11,6 +11,14 @@ use placement_file::PlacementRead;
 use rules::Limits;
 use rules::Refusal;
 
+// The line of a refusal.
+fn print_refusal(why: Refusal) {
+    let line = answer::refused_line(why);
+    let text = line.text;
+    let bytes = line.bytes;
+    io::write_all(STDOUT_FILENO, &text[..bytes]);
+}
+
 fn print_read(same: bool, filled: usize) {
     if !same {
         io::write_all(STDOUT_FILENO, b"not the same bytes\n");
@@ -103,7 +111,7 @@ fn run_net(s: &[u8]) {
             let same = write_places(s, limits, places, &parent, &wire, &kind, &pin, &polarity);
             print_read(same, places)
         }
-        NetRead::Refused(r) => answer::print_refused(STDOUT_FILENO, r),
+        NetRead::Refused(r) => print_refusal(r),
     }
 }
 
@@ -137,7 +145,7 @@ fn run_placement(s: &[u8]) {
             let same = write_entries(s, n, &wires, &offsets);
             print_read(same, n)
         }
-        PlacementRead::Refused(r) => answer::print_refused(STDOUT_FILENO, r),
+        PlacementRead::Refused(r) => print_refusal(r),
     }
 }
 

@@ -23,6 +23,14 @@ const PLACES: usize = 1025;
 
 const ENTRIES: usize = 4096;
 
+// The line of a refusal.
+fn print_refusal(why: Refusal) {
+    let line = answer::refused_line(why);
+    let text = line.text;
+    let bytes = line.bytes;
+    io::write_all(STDOUT_FILENO, &text[..bytes]);
+}
+
 fn print_entry(wire: u16, offset: u32) {
     io::write_all(STDOUT_FILENO, b"wire ");
     io::print_decimal(STDOUT_FILENO, wire as u64);
@@ -71,7 +79,7 @@ fn finish_given(
     );
     match finished {
         Finished::Added(count) => print_added(&wires[..count], &added[..count]),
-        Finished::Refused(why) => answer::print_refused(STDOUT_FILENO, why),
+        Finished::Refused(why) => print_refusal(why),
     }
 }
 
@@ -101,7 +109,7 @@ fn finish_net(
         ),
         PlacementRead::Refused(why) => {
             io::write_all(STDOUT_FILENO, b"placement ");
-            answer::print_refused(STDOUT_FILENO, why)
+            print_refusal(why)
         }
     }
 }
@@ -133,7 +141,7 @@ fn finish_pair(net: &[u8], placement: &[u8]) {
         ),
         NetRead::Refused(why) => {
             io::write_all(STDOUT_FILENO, b"net ");
-            answer::print_refused(STDOUT_FILENO, why)
+            print_refusal(why)
         }
     }
 }

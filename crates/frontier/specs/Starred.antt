@@ -1,4 +1,4 @@
--- Document 01, "Nets on both sides of each line": the rows marked *, as data, and what each says.
+-- The rows of RULES 9 but 9.13, as data, and what each says.
 use Prim.Native.Nat.{ℕ, _≤_}
 use mathlib.Core.Path.{_≡_}
 use mathlib.Core.List.{List, [], _∷_, map}
@@ -24,7 +24,7 @@ plus p w c = record { parent = p; wire = w; kind = 1; pin = c; polarity = 0 }
 abbrev pub minus : ℕ → ℕ → ℕ → Node
 minus p w c = record { parent = p; wire = w; kind = 1; pin = c; polarity = 1 }
 
--- the columns of the nodes from 1 on. "node 0's five places all hold 0"
+-- the columns of the nodes from 1 on; node 0 has 0 in each (RULES 1.13)
 abbrev pub netOf : Limits → List Node → Net
 netOf l ds = net l (0 ∷ map (λ d. d .parent) ds) (0 ∷ map (λ d. d .wire) ds) (0 ∷ map (λ d. d .kind) ds) (0 ∷ map (λ d. d .pin) ds) (0 ∷ map (λ d. d .polarity) ds)
 

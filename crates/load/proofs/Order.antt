@@ -9,7 +9,7 @@ use Rattle.rules.specs.Net.{Net}
 use Rattle.rules.specs.Load.{entries}
 use Rattle.rules.specs.Legal.{InOrder, After, higher, further, Stands}
 
--- "Entries stand in order of wire number"
+-- entries go by wire number (RULES 2.4)
 abbrev pub Rising : List ℕ → Type 0
 Rising vs = (a b : ℕ) → a ≤ b → b < length vs → getD vs a 0 ≤ getD vs b 0
 

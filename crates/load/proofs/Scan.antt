@@ -42,7 +42,7 @@ module _ (n : Net) (offs : ℕ → List ℕ) where
   unfolding handedBy
   handed-none = refl
 
--- "Below a sink lies its pin."
+-- at a sink: its pin (RULES 2.6)
 pub load-sink : (n : Net) (offs : ℕ → List ℕ) (v : ℕ) → kind n v ≡ 1 → loadBelow n offs v ≡ pin n v
 unfolding loadBelow
 load-sink n offs v k = rw (eq-eqb (kind n v) 1 k)

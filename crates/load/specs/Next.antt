@@ -7,7 +7,7 @@ use Rattle.rules.specs.Figures.{mostPlaces}
 use Rattle.load.specs.declared.Found.{Found}
 use Rattle.load.specs.declared.Found.the-variants.{At, Nothing}
 
--- "A parent's number is lower than its child's."
+-- a parent has the smaller number (RULES 1.5)
 pub record Parents (parents : List ℕ) : Type 0 where
   pub some : 1 ≤ length parents
   pub few : length parents ≤ mostPlaces

@@ -14,7 +14,7 @@ ghost use Rattle.rules.specs.Net.{netAt, node};
 ghost use Rattle.rules.specs.Judge.{limitsInRange, sourceClear, endInRange, nodeInRange, parentFits, admitted, hasChild, childedBy, judged};
 ghost use Rattle.net.specs.Counted.{unlimited, sameLengths, Within, Level, Tallied, NodesJudged};
 
-// Document 01's number of a refusal.
+// The number of a refusal (RULES 4.3).
 pub fn number(r: Refusal) -> u32
     ensures { λ n. ⌜ n ≡ numberOf r ⌝ }
 {
@@ -233,7 +233,7 @@ fn judge_nodes(
     Judged::Sound
 }
 
-// A net's columns: the first refusal in document 01's order, or that they are sound.
+// A net's columns: the first refusal in the order of RULES 5.4, or that they are sound.
 pub fn judge(
     l: Limits,
     parent: &[u16],

@@ -40,13 +40,21 @@ fn judge_next() {
     ));
 }
 
+// The line of a refusal.
+fn print_refusal(why: rules::Refusal) {
+    let line = answer::refused_line(why);
+    let text = line.text;
+    let bytes = line.bytes;
+    io::write_all(1, &text[..bytes]);
+}
+
 fn tell(judged: rules::Judged) {
     match judged {
         rules::Judged::Sound => {
             io::write_all(1, b"sound\n");
         }
         rules::Judged::Refused(r) => {
-            answer::print_refused(libc::STDOUT_FILENO, r);
+            print_refusal(r);
         }
     }
 }

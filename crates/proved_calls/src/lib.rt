@@ -1,5 +1,5 @@
 // The proved calls over numbers and slices alone, so that the tests and the benches can make them from C.
-// Each answers document 01's number and leaves the place, or on success what the call answers, in `place`.
+// Each answers the number of RULES 4.3 and leaves the place, or on success what the call answers, in `place`.
 mod carries;
 mod checks;
 mod files;

@@ -43,7 +43,7 @@ joins-on i end = end
 joins-on i (given {x} h) = elim (ℕ-discrete (x .wire) i) [ yes q ↦ rw (eq-eqb (x .wire) i q) (given (joins-on i h)) | no ne ↦ rw (ne-eqb (x .wire) i ne) (joins-on i h) ]
 joins-on i (added {x} h) = elim (ℕ-discrete (x .wire) i) [ yes q ↦ rw (eq-eqb (x .wire) i q) (added (joins-on i h)) | no ne ↦ rw (ne-eqb (x .wire) i ne) (joins-on i h) ]
 
--- ---- "the added entries in list order"
+-- ---- the added entries are in order (RULES 8.3)
 order-from : (n : Net) {c d : Entry} (p : List Entry) → After c d → InOrder n d p → InOrder n c p
 order-from n [] h o = tt
 order-from n (e ∷ es) h o = (after-after h (o .0), o .1, o .2)

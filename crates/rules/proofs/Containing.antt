@@ -1,4 +1,4 @@
--- The two readings of "contains all the given entries" are one: a placement in order that has each given entry as often as it is given is the given ones and
+-- The two readings of containing the given entries are one: a placement in order that has each given entry as often as it is given is the given ones and
 -- others, each in its order; and such a whole has them as often. So what is said of completions is said of all legal placements that contain the given entries.
 use Prim.Native.Nat.{ℕ, zero, suc, _+_, _-_, _≤_, _<_}
 use mathlib.Core.Path.{_≡_, refl, sym, subst, _∙_}

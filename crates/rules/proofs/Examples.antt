@@ -1,4 +1,4 @@
--- The definitions tried on document 01's nets: they compute, and a pin is not wire.
+-- The definitions tried on nets of RULES 9: they compute, and a pin is not wire.
 use Prim.Native.Nat.{ℕ, zero, suc, _+_, _-_, _≤_}
 use mathlib.Core.Path.{_≡_, refl}
 use mathlib.Core.List.{List, [], _∷_, _++_}
@@ -81,7 +81,7 @@ judged-so : tried
 unfolding placementJudged placedFrom withinLimit firstSink judgeEach driven joined drivenOn loadBelow handedBy handsUp drives offsetsOn hanging onTheWay inverters
 judged-so = refl
 
--- "wire 0, pin 11: refusal 8": whatever stands on the wire, the lowest driver sees the whole pin
+-- RULES 9.6, pin 11: whatever stands on the wire, the lowest driver sees the whole pin
 pub pin-eleven : NoneLegal (alone 10 0 11)
 unfolding driven joined drivenOn loadBelow handedBy handsUp drives hanging
 pin-eleven p l = go (offsetsOn p 1) (l .loads)

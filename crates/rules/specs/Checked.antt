@@ -1,4 +1,4 @@
--- Document 01, "Numbers given back": "The checker takes the net, then 7 for the placement, then 10, 11, 12."
+-- The judgement of anybody's placement on a net: RULES 5.6, after the net's own (RULES 5.11).
 use Prim.Native.Nat.{ℕ, zero, suc, _+_, _-_}
 use mathlib.Core.Bool.{Bool, true, false}
 use mathlib.Core.List.{List, [], _∷_}
@@ -15,11 +15,11 @@ use Rattle.rules.specs.Load.{entries, offsetsOn, drivers}
 use Rattle.rules.specs.Legal.{start, sense}
 use Rattle.rules.specs.Judge.{unless, thenJudge, judgeEach, judged}
 
--- 7: "placement columns unequal or over 4,096"
+-- RULES 1.14, else 7
 abbrev pub placementFits : List ℕ → List ℕ → Bool
 placementFits vs os = both (eqb (length os) (length vs)) (leb (length vs) mostEntries)
 
--- 10: "entry on no wire, past its wire, or out of order (lower than the one before it)"
+-- RULES 2.3 and 2.4, else 10: the entry stands, and does not belong before its predecessor
 abbrev pub onItsWire : Net → Entry → Bool
 onItsWire n e = both (ltb 0 (e .wire)) (both (ltb (e .wire) (places n)) (leb (e .offset) (wire n (e .wire))))
 
@@ -41,7 +41,7 @@ unfoldable pub firstSink : Net → ℕ → ℕ → ℕ
 firstSink n zero i = i
 firstSink n (suc k) i = pick (eqb (kind n i) 1) i (firstSink n k (suc i))
 
--- 12: "inverter count plus polarity is odd where the lowest-numbered sink's is even, or the reverse": s is the lowest-numbered sink's
+-- RULES 2.13, else 12: each sink's sum is even or odd as s is, the sum of the lowest sink
 abbrev pub hasSense : Net → (ℕ → List ℕ) → ℕ → ℕ → Judged
 hasSense n offs s i = unless (pick (eqb (kind n i) 1) (eqb (sense n offs i) s) true) (WrongParity i)
 

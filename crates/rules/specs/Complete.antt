@@ -1,4 +1,4 @@
--- A half-buffered net (document 02, Item 4): some entries are given, others are added to them, and all together are to be legal.
+-- A half-buffered net (RULES 8): some entries are given, others are added to them, and all together are to be legal.
 use Prim.Native.Nat.{ℕ, _+_, _≤_}
 use mathlib.Core.Path.{_≡_}
 use mathlib.Core.Bool.{Bool}

@@ -1,4 +1,4 @@
--- Document 01, the carry: "Eased means C_U no lower, C_b no higher, each wire and pin no higher, all else equal."
+-- Which net eases another (RULES 6.16), how 13 is found (RULES 6.17), and a placement cut to the new wires (RULES 6.18).
 use Prim.Native.Nat.{ℕ, zero, suc, _-_, _≤_, min}
 use mathlib.Core.Path.{_≡_}
 use mathlib.Core.List.{List, map}
@@ -33,7 +33,7 @@ cut m e = record { wire = e .wire; offset = min (e .offset) (wire m (e .wire)) }
 abbrev pub carried : Net → List Entry → List Entry
 carried m p = map (cut m) p
 
--- 13: "second net does not ease the first", "lowest node that doesn't; 0 for limits or size"
+-- RULES 6.17: 13 at the lowest node that is harder than before, at 0 for the limits and for the number of nodes
 abbrev pub limitsEase : Limits → Limits → Bool
 limitsEase a b = both (leb (a .limit) (b .limit)) (both (leb (b .pin) (a .pin)) (eqb (b .repeater) (a .repeater)))
 

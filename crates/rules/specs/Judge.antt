@@ -1,4 +1,4 @@
--- Document 01, "Numbers given back": "Columns: 7, then limits 3, then node 0's places 3, then nodes from 1 up with 3 before 4, then 5."
+-- The judgement of a net's columns: RULES 1.5 to 1.13 as tests, in the order of RULES 5.4.
 use Prim.Native.Nat.{ℕ, zero, suc, _+_, _-_, _*_, _≤_, _<_}
 use mathlib.Core.Path.{_≡_}
 use mathlib.Core.Bool.{Bool, true, false}
@@ -28,7 +28,7 @@ unfoldable pub judgeEach : (ℕ → Judged) → ℕ → ℕ → Judged
 judgeEach f zero i = Sound
 judgeEach f (suc k) i = thenJudge (f i) (judgeEach f k (suc i))
 
--- 7: "net columns unequal, empty or over 1,025 places"
+-- RULES 1.12, else 7
 abbrev pub columnsFit : Net → Bool
 columnsFit n =
     both (eqb (length (n .wires)) (places n))
@@ -37,22 +37,22 @@ columnsFit n =
     (both (eqb (length (n .polarities)) (places n))
     (both (ltb 0 (places n)) (leb (places n) mostPlaces)))))
 
--- C_U 1 to 1,000,000; C_b 0 up, with 2·C_b < C_U; type 0 buffer, 1 inverter
+-- RULES 1.9
 abbrev pub limitsInRange : Limits → Bool
 limitsInRange l = both (ltb 0 (l .limit)) (both (leb (l .limit) mostLimit) (both (ltb (2 * l .pin) (l .limit)) (leb (l .repeater) 1)))
 
--- "node 0's five places all hold 0"
+-- RULES 1.13: the source has no wire, no pin and no polarity
 abbrev pub sourceClear : Net → Bool
 sourceClear n = both (eqb (parent n 0) 0) (both (eqb (wire n 0) 0) (both (eqb (kind n 0) 0) (both (eqb (pin n 0) 0) (eqb (polarity n 0) 0))))
 
--- sink pin 0 to 1,000,000; polarity 0 plus, 1 minus, only 0 with type 0. "A branch point has pin 0 and polarity 0"
+-- RULES 1.7, 1.10 and 1.13: a sink's polarity is at most the type; a branch point has neither pin nor polarity
 abbrev pub endInRange : Limits → Node → Bool
 endInRange l d =
     pick (eqb (d .kind) 1)
     (both (leb (d .pin) mostPin) (leb (d .polarity) (l .repeater)))
     (both (eqb (d .kind) 0) (both (eqb (d .pin) 0) (eqb (d .polarity) 0)))
 
--- wire 0 to 10,000,000
+-- RULES 1.4
 abbrev pub nodeInRange : Limits → Node → Bool
 nodeInRange l d = both (leb (d .wire) mostWire) (endInRange l d)
 
@@ -61,7 +61,7 @@ unfoldable pub children : Net → ℕ → ℕ → ℕ
 children n zero v = 0
 children n (suc k) v = pick (eqb (parent n (suc k)) v) 1 0 + children n k v
 
--- 4: "parent not lower or a sink, a ninth child, a node past 1,024": node i under p, which is of the kind k and has c children among the nodes before i
+-- RULES 1.3, 1.5, 1.6, else 4: node i under p, which is of the kind k and has c children among the nodes before i (RULES 5.5)
 abbrev pub parentFits : ℕ → ℕ → ℕ → ℕ → Bool
 parentFits i p k c = both (leb i mostNodes) (both (ltb p i) (both (eqb k 0) (ltb c mostChildren)))
 
@@ -76,7 +76,7 @@ nodeJudged n i place = admitted (n .limits) (node n i) i (kind n (parent n i)) (
 abbrev pub nodesJudged : Net → Judged
 nodesJudged n = judgeEach (λ i. nodeJudged n i i) (places n - 1) 1
 
--- 5: "childless branch point or source", by the kind of node i and the number of its children
+-- RULES 1.6, else 5: by the kind of node i and the number of its children
 abbrev pub hasChild : ℕ → ℕ → ℕ → Judged
 hasChild i k c = unless (pick (eqb k 0) (ltb 0 c) true) (Childless i)
 

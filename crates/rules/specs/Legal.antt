@@ -1,4 +1,4 @@
--- Document 01, "Legal placement": which placements are legal, and the least count. One statement for buffers and inverters.
+-- Which placements are legal (RULES 2.16), and the least count (RULES 2.18). One statement for buffers and inverters.
 use Prim.Native.Nat.{ℕ, zero, suc, _+_, _*_, _%_, _≤_, _<_}
 use mathlib.Core.Path.{_≡_}
 use mathlib.Core.List.{List, [], _∷_}
@@ -14,12 +14,12 @@ abbrev pub Each : (ℕ → Type 0) → List ℕ → Type 0
 Each P [] = Unit {0}
 Each P (x ∷ xs) = P x × Each P xs
 
--- "Entries stand in order of wire number, then offset. Equal entries are allowed": e may come after d
+-- RULES 2.4 and 2.5: e may come after d
 pub data After (d e : Entry) : Type 0 where
   higher : d .wire < e .wire → After d e
   further : d .wire ≡ e .wire → d .offset ≤ e .offset → After d e
 
--- "An entry is a wire and an offset, the units of that wire below the buffer: 0 to the wire's size."
+-- RULES 2.3
 pub record Stands (n : Net) (e : Entry) : Type 0 where
   pub above : 1 ≤ e .wire
   pub within : e .wire < places n
@@ -39,7 +39,7 @@ unfoldable pub onTheWay : Net → (ℕ → List ℕ) → ℕ → ℕ → ℕ
 onTheWay n offs zero i = 0
 onTheWay n offs (suc k) i = let higher = onTheWay n offs k (parent n i) in pick (eqb i 0) 0 (length (offs i) + higher)
 
--- "the counts of inverters from source to sink": an entry of type 1 inverts, one of type 0 does not
+-- the inverters above a sink: an entry of type 1 inverts, one of type 0 does not (RULES 2.15)
 unfoldable pub inverters : Net → (ℕ → List ℕ) → ℕ → ℕ
 inverters n offs i = n .limits .repeater * onTheWay n offs i i
 
@@ -52,12 +52,12 @@ pub record Sink (n : Net) (i : ℕ) : Type 0 where
 abbrev pub sense : Net → (ℕ → List ℕ) → ℕ → ℕ
 sense n offs i = (inverters n offs i + polarity n i) % 2
 
--- "the counts of inverters from source to sink have one parity for all plus sinks and the other for all minus sinks (the paper's condition b)"
+-- RULES 2.13: the sums of inverters and polarity are all even or all odd
 pub record OneSense (n : Net) (offs : ℕ → List ℕ) : Type 0 where
   pub one : ℕ
   pub same : (i : ℕ) → Sink n i → sense n offs i ≡ one
 
--- "Legal means: every buffer drives at most C_U; what lies below the source is at most C_U; and for type 1 [..]"
+-- RULES 2.16: every entry stands in order, no driver is over the limit (RULES 2.12; the source is the last of the drivers), and parity
 pub record Legal (n : Net) (p : List Entry) : Type 0 where
   pub stands : InOrder n start p
   pub loads : Each (λ load. load ≤ n .limits .limit) (drivers n p)
@@ -70,6 +70,6 @@ pub record Least (n : Net) (k : ℕ) : Type 0 where
   pub count : length placement ≡ k
   pub fewest : (p : List Entry) → Legal n p → k ≤ length p
 
--- "no legal placement"
+-- RULES 2.18: there may be none
 abbrev pub NoneLegal : Net → Type 0
 NoneLegal n = (p : List Entry) → Legal n p → ⊥

@@ -1,4 +1,4 @@
--- Document 01, "Legal placement": what lies below a node, what a wire hands up, what each repeater drives. Loads are exact natural numbers.
+-- What lies below a node, what a wire hands up, what each repeater drives (RULES 2.6 to 2.11). Loads are natural numbers, so none is too large (RULES 2.19).
 use Prim.Native.Nat.{ℕ, zero, suc, _+_, _-_}
 use mathlib.Core.List.{List, [], _∷_, _++_}
 use lib.ListN.{length}
@@ -9,7 +9,7 @@ use Rattle.rules.specs.Choose.{pick}
 use Rattle.rules.specs.Net.{Net, places, wire, kind, pin}
 use Rattle.rules.specs.Tree.{Hanging, none, sink, branch, under}
 
--- "A placement in memory is two columns, wire and offset": the entries that they hold
+-- the entries that two columns hold (RULES 1.14)
 unfoldable pub entries : List ℕ → List ℕ → List Entry
 entries [] os = []
 entries (v ∷ vs) [] = []
@@ -20,17 +20,17 @@ unfoldable pub offsetsOn : List Entry → ℕ → List ℕ
 offsetsOn [] i = []
 offsetsOn (e ∷ es) i = let others = offsetsOn es i in pick (eqb (e .wire) i) (e .offset ∷ others) others
 
--- "the lowest buffer drives o1 plus what lies below the node, each next drives its offset less the one before plus C_b"
+-- RULES 2.8: the wire from the last repeater, or the node, up to this one, and what stands there
 unfoldable pub drives : ℕ → ℕ → ℕ → List ℕ → List ℕ
 drives cb from load [] = []
 drives cb from load (o ∷ os) = ((o - from) + load) ∷ drives cb o cb os
 
--- "A wire of size w without entries hands up w plus what lies below its lower node", with entries "w - om + C_b"
+-- RULES 2.7, and RULES 2.9 above the topmost repeater
 unfoldable pub handsUp : ℕ → ℕ → ℕ → ℕ → List ℕ → ℕ
 handsUp cb w from load [] = (w - from) + load
 handsUp cb w from load (o ∷ os) = handsUp cb w o cb os
 
--- "Below a branch point or the source lies the sum of what its child wires hand up." "Below a sink lies its pin."
+-- RULES 2.6: the wires that hang at a node, added up; at a sink its pin
 unfoldable pub handedBy : ℕ → (ℕ → List ℕ) → Hanging → ℕ
 handedBy cb offs none = 0
 handedBy cb offs (sink i w pin polarity rest) = handsUp cb w 0 pin (offs i) + handedBy cb offs rest

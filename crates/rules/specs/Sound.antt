@@ -1,4 +1,4 @@
--- Document 01, "The net": what holds of every net that is judged sound, fact by fact, for callers that go on from there.
+-- RULES 1.15: what holds of every net that is judged sound, fact by fact, for callers that go on from there.
 use Prim.Native.Nat.{ℕ, _-_, _*_, _≤_, _<_}
 use mathlib.Core.Path.{_≡_}
 use lib.ListN.{length}

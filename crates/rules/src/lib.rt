@@ -21,7 +21,7 @@ pub struct Entry {
     pub offset: u32,
 }
 
-// Why a call refuses, in the order of document 01's table. Each holds the place.
+// Why a call refuses, in the order of the numbers (RULES 4.3). Each holds the place.
 pub enum Refusal {
     FileEnds(usize),
     NotDue(usize),

@@ -1,5 +1,5 @@
--- The cycle of calls {handed_up, load_below}: a node asks each wire below it and a wire asks the node at its lower end.
--- The falling number is twice (1,024 less the node number), plus one for a wire. The loop is Scan.antt's, its ends are Spans.antt's, and a wire's part is Parts.antt's.
+-- The cycle of calls {handed_up, load_below}: a node sums its child wires, and each of these goes on to its own node (RULES 2.6, 2.7).
+-- What falls: 2 · (1,024 - the node), and 1 more where a wire is asked, so that its node comes next. The loop is Scan.antt's, its ends are Spans.antt's, and a wire's part is Parts.antt's.
 -- What is asked for is shown of every net whose tables these are; that the numbers fit, of the one that the caller knows of.
 use Prim.Native.Nat.{ℕ, _<_, _+_, _-_, _*_}
 use mathlib.Core.Path.{sym, ap}

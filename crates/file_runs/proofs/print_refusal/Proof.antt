@@ -1,11 +1,11 @@
--- `print_refused` is safe: a line lies in its text.
+-- `print_refusal` is safe: a line lies in its text.
 use native.Mathlib.Omega.{arith}
 use mathlib.Core.Path.{sym}
 use lib.Seq.{length-take-le}
 use borrow.Author.Needs.{needs}
 use Rattle.answer.proofs.Laying.{line-size}
-use Rattle.answer.proofs.print_refused.Statement.{statement}
-use Rattle.answer.proofs.print_refused.Tie as tie
+use Rattle.file_runs.proofs.print_refusal.Statement.{statement}
+use Rattle.file_runs.proofs.print_refusal.Tie as tie
 
 array-share-prefix-text : tie.Need-array-share-prefix-text
 array-share-prefix-text c = let l = c .before .refused-line .ensures in let z = line-size _ l in omega (arith, l .short)
@@ -13,8 +13,8 @@ array-share-prefix-text c = let l = c .before .refused-line .ensures in let z = 
 slice-aggregate-write-all : tie.Need-slice-aggregate-write-all
 slice-aggregate-write-all c = let l = c .before .before .refused-line .ensures in let z = line-size _ l in sym (length-take-le _ _ (omega (arith, l .short)))
 
-pub print-refused-spec : {M : Type 1} → statement M
-print-refused-spec =
+pub print-refusal-spec : {M : Type 1} → statement M
+print-refusal-spec =
     tie.close
     (tie.spec
     (λ c κs. search needs)
