@@ -4,6 +4,5 @@ pub mod Writing
 pub mod Parts
 pub mod RoundTrip
 pub mod Due
-pub mod Determined
 pub mod Example
 pub mod Listing

@@ -74,7 +74,7 @@ fn front_of(f: Field) -> Front
 fn read_front(s: &[u8]) -> Front
     ensures { λ r. ⌜ r ≡ frontOf (dueAt 1 (now (s .entry)) 0) ⌝ }
 {
-    let got = field::read_due(s, 0, 1);
+    let got = field_reader::read_due(s, 0, 1);
     match got {
         DueRead::Got(f) => front_of(f),
         DueRead::Refused(r) => Front::Refused(r),
@@ -136,7 +136,7 @@ fn taken_of(f: Field) -> Taken
 fn take_node(s: &[u8], at: usize) -> Taken
     ensures { λ r. ⌜ r ≡ takenAt (now (s .entry)) at ⌝ }
 {
-    let got = field::read_field(s, at);
+    let got = field_reader::read_field(s, at);
     match got {
         FieldRead::Got(f) => taken_of(f),
         FieldRead::Cut { tag, place } => Taken::Refused(cut(node_due(tag), place)),
@@ -358,7 +358,7 @@ fn net_size(parent: &[u16], wire: &[u32], kind: &[u8], pin: &[u32], polarity: &[
     let mut i: usize = 1;
     while i < parent.len() {
         let d = net::node_at(parent, wire, kind, pin, polarity, i);
-        size += field::size(value_of(d));
+        size += field_writer::size(value_of(d));
         i += 1;
     }
     size
@@ -377,17 +377,17 @@ fn put_fields(
     requires { ⌜ Level (netAt unlimited parent wire kind pin polarity) × (length (netBytes (netAt l parent wire kind pin polarity)) ≤ length (now out)) ⌝ }
     ensures { λ _. ⌜ now (out .exit) ≡ sets (now (out .entry)) 0 (netBytes (netAt l (parent .entry) (wire .entry) (kind .entry) (pin .entry) (polarity .entry))) ⌝ }
 {
-    field::write_field(out, Value::Limits(l));
+    field_writer::write_field(out, Value::Limits(l));
     let mut at: usize = 12;
     let mut i: usize = 1;
     while i < parent.len() {
         let d = net::node_at(parent, wire, kind, pin, polarity, i);
         let v = value_of(d);
-        field::write_field(&mut out[at..], v);
-        at += field::size(v);
+        field_writer::write_field(&mut out[at..], v);
+        at += field_writer::size(v);
         i += 1;
     }
-    field::write_field(&mut out[at..], Value::End);
+    field_writer::write_field(&mut out[at..], Value::End);
 }
 
 // Writes a net's file: judges the net, then the room, and then fills the buffer.

@@ -71,7 +71,7 @@ fn entry_in_range(e: Entry) -> bool
 fn owed_in(s: &[u8]) -> usize
     ensures { λ r. ⌜ r ≡ owed (now (s .entry)) ⌝ }
 {
-    count_in(field::read_due(s, 0, 17)) as usize
+    count_in(field_reader::read_due(s, 0, 17)) as usize
 }
 
 // A refusal where a test fails, and the next judgement where there is none: the definitions' own `unless` and `thenJudge`.
@@ -97,7 +97,7 @@ fn judge_count(s: &[u8]) -> Judged
     ensures { λ r. ⌜ r ≡ countJudged (now (s .entry)) ⌝ }
 {
     let ranged = unless(owed_in(s) <= 4096, Refusal::OutOfRange(0));
-    then_judge(judge_due(field::read_due(s, 0, 17)), ranged)
+    then_judge(judge_due(field_reader::read_due(s, 0, 17)), ranged)
 }
 
 // Entry i of a file.
@@ -106,7 +106,7 @@ fn judge_entry(s: &[u8], i: usize) -> Judged
     ensures { λ r. ⌜ r ≡ entryJudged (now (s .entry)) i ⌝ }
 {
     let at = 5 + 9 * i;
-    let read = field::read_due(s, at, 18);
+    let read = field_reader::read_due(s, at, 18);
     let e = entry_in(read);
     let ranged = unless(entry_in_range(e), Refusal::OutOfRange(at));
     then_judge(judge_due(read), ranged)
@@ -119,7 +119,7 @@ fn judge_end(s: &[u8], at: usize) -> Judged
 {
     let next = at + 3;
     let last = unless(s.len() <= next, Refusal::BytesAfterEnd(next));
-    then_judge(judge_due(field::read_due(s, at, 127)), last)
+    then_judge(judge_due(field_reader::read_due(s, at, 127)), last)
 }
 
 // The n entries and the end.
@@ -155,7 +155,7 @@ fn fill(s: &[u8], count: usize, wires: &mut [u16], offsets: &mut [u32])
 {
     let mut i: usize = 0;
     while i < count {
-        let e = entry_in(field::read_due(s, 5 + 9 * i, 18));
+        let e = entry_in(field_reader::read_due(s, 5 + 9 * i, 18));
         wires[i] = e.wire;
         offsets[i] = e.offset;
         i += 1;
@@ -225,16 +225,16 @@ fn write_fields(wires: &[u16], offsets: &[u32], out: &mut [u8])
     ensures { λ _. ⌜ now (out .exit) ≡ sets (now (out .entry)) 0 (placementBytes (entries (now (wires .entry)) (now (offsets .entry)))) ⌝ }
 {
     let n = wires.len();
-    field::write_field(out, Value::Count(n as u16));
+    field_writer::write_field(out, Value::Count(n as u16));
     let mut at: usize = 5;
     let mut i: usize = 0;
     while i < n {
         let e = column_entry(wires, offsets, i);
-        field::write_field(&mut out[at..], Value::Entry(e));
+        field_writer::write_field(&mut out[at..], Value::Entry(e));
         at += 9;
         i += 1;
     }
-    field::write_field(&mut out[at..], Value::End);
+    field_writer::write_field(&mut out[at..], Value::End);
 }
 
 // Writes the file of a placement. The columns are judged, and the room, before anything is written.
