@@ -118,7 +118,7 @@ fn run_net(s: &[u8]) {
 // Whether the placement is written as the bytes s.
 fn placement_comes_back(s: &[u8], wires: &[u16], offsets: &[u32]) -> bool {
     let mut out = [0u8; 36872];
-    let wrote = placement_file::write_placement(wires, offsets, &mut out);
+    let wrote = placement_writer::write_placement(wires, offsets, &mut out);
     let Wrote::Bytes(n) = wrote else {
         return false;
     };
@@ -139,7 +139,7 @@ fn write_entries(s: &[u8], n: usize, wires: &[u16], offsets: &[u32]) -> bool {
 fn run_placement(s: &[u8]) {
     let mut wires = [0u16; 4096];
     let mut offsets = [0u32; 4096];
-    let got = placement_file::read_placement(s, &mut wires, &mut offsets);
+    let got = placement_reader::read_placement(s, &mut wires, &mut offsets);
     match got {
         PlacementRead::Read(n) => {
             let same = write_entries(s, n, &wires, &offsets);

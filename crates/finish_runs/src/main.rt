@@ -95,7 +95,7 @@ fn finish_net(
 ) {
     let mut given = [0u16; ENTRIES];
     let mut offsets = [0u32; ENTRIES];
-    let found = placement_file::read_placement(placement, &mut given, &mut offsets);
+    let found = placement_reader::read_placement(placement, &mut given, &mut offsets);
     match found {
         PlacementRead::Read(count) => finish_given(
             limits,
@@ -189,7 +189,7 @@ fn placement_bytes(s: &[u8]) -> usize
 {
     let mut wires = [0u16; ENTRIES];
     let mut offsets = [0u32; ENTRIES];
-    let found = placement_file::read_placement(s, &mut wires, &mut offsets);
+    let found = placement_reader::read_placement(s, &mut wires, &mut offsets);
     let PlacementRead::Refused(why) = found else {
         return s.len();
     };

@@ -1,10 +1,5 @@
-pub mod Taking
 pub mod Judging
 pub mod Listing
-pub mod Filling
-pub mod Answers
-pub mod Writing
 pub mod RoundTrip
 pub mod SamePlacement
-pub mod Determined
 pub mod Example

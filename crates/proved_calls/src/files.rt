@@ -143,7 +143,7 @@ pub extern "C" fn proved_read_placement(
 ) -> u32
     ensures { λ n. ⌜ ReadsPlacement (now (s .entry)) (now (wires .entry)) (now (offsets .entry)) (now (wires .exit)) (now (offsets .exit)) n (now (place .exit)) ⌝ }
 {
-    let said = placement_file::read_placement(s, wires, offsets);
+    let said = placement_reader::read_placement(s, wires, offsets);
     *place = placement_read_count(said);
     placement_read_number(said)
 }
@@ -175,7 +175,7 @@ pub extern "C" fn proved_write_placement(
 ) -> u32
     ensures { λ n. ⌜ WritesPlacement (now (wires .entry)) (now (offsets .entry)) (now (out .entry)) (now (out .exit)) n (now (place .exit)) ⌝ }
 {
-    let said = placement_file::write_placement(wires, offsets, out);
+    let said = placement_writer::write_placement(wires, offsets, out);
     *place = placement_wrote_bytes(said);
     placement_wrote_number(said)
 }

@@ -68,7 +68,7 @@ fn check_placement(
 {
     let mut wires = [0u16; 4096];
     let mut offsets = [0u32; 4096];
-    let read = placement_file::read_placement(placement, &mut wires, &mut offsets);
+    let read = placement_reader::read_placement(placement, &mut wires, &mut offsets);
     match read {
         PlacementRead::Refused(r) => net::number(r),
         PlacementRead::Read(n) => check_entries(

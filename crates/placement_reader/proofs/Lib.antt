@@ -1,0 +1,5 @@
+pub mod Taking
+pub mod Judging
+pub mod Filling
+pub mod Answers
+pub mod Determined
