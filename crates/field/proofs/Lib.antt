@@ -4,5 +4,6 @@ pub mod Writing
 pub mod Parts
 pub mod RoundTrip
 pub mod Due
+pub mod ReadNumbers
 pub mod Example
 pub mod Listing

@@ -1,6 +1,6 @@
 -- Two columns judged, 7 before 3, and one entry's range.
 use Prim.Native.Nat.{ℕ}
-use mathlib.Core.Path.{_≡_, _∙_}
+use mathlib.Core.Path.{_≡_}
 use mathlib.Core.List.{List}
 use mathlib.Core.Bool.{Bool, true, false}
 use Rattle.rules.specs.Judge.{unless}

@@ -2,4 +2,5 @@ pub mod Judging
 pub mod Listing
 pub mod RoundTrip
 pub mod SamePlacement
+pub mod FileNumbers
 pub mod Example

@@ -1,11 +1,10 @@
 -- How one judgement follows another, and one entry's.
-use Prim.Native.Nat.{ℕ}
+use Prim.Native.Nat.{ℕ, _+_}
 use mathlib.Core.Path.{_≡_, sym, ap, _∙_}
 use mathlib.Core.List.{List}
 use mathlib.Core.Bool.{Bool}
-use lib.Dec.{leb}
 use lib.ListN.{length}
-use Prim.Native.Nat.{_+_}
+use lib.Dec.{leb}
 use Rattle.rules.specs.Figures.{mostEntries}
 use Rattle.rules.specs.Judge.{unless, thenJudge}
 use Rattle.rules.specs.declared.Entry.{Entry}
