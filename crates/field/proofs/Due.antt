@@ -62,7 +62,7 @@ found tag (Got g) {f} e = by (eqb (tagOf (g .value)) tag) refl e
 found tag (Cut t place) e = never (cc)
 found tag (Refused r) e = never (cc)
 
--- "Place: byte of that field's start", here too
+-- the place is where the field begins, here too
 pub due-place : (tag : ℕ) (s : List ℕ) (at : ℕ) → duePlace (dueAt tag s at) ≡ at
 due-place tag s at = of (fieldAt s at) ∙ read-place s at
   where

@@ -1,4 +1,4 @@
--- The three fields of document 01's 29-byte file, and the last of them cut, by computation.
+-- The three fields of RULES 7.7's file of 29 bytes, and the last of them cut, by computation.
 use Prim.Native.Nat.{ℕ}
 use mathlib.Core.Path.{_≡_, refl}
 use mathlib.Core.List.{List, [], _∷_}

@@ -1,4 +1,4 @@
--- "the part of the lent buffer that begins where the last one ended": a run of stores in that part, said of the whole buffer.
+-- RULES 3.14: a field is written to the rest of the buffer. A run of stores in that rest, said of the whole buffer.
 use Prim.Native.Nat.{ℕ, zero, suc, _+_, _-_, _≤_}
 use native.Mathlib.Nat.{zero-add, suc-add, add-zero}
 use native.Mathlib.Omega.{arith}

@@ -35,7 +35,7 @@ module _ (at : ℕ) (l : List ℕ) {said body : ℕ} (room : 3 ≤ length l) (s 
 pub part-drop : (s : List ℕ) (at : ℕ) → take (length s - at) (drop at s) ≡ drop at s
 part-drop s at = take-all (length s - at) (drop at s) (simp length-drop (omega arith))
 
--- "Place: byte of that field's start", whatever is answered
+-- RULES 4.3: the place is where the field begins, whatever is answered
 pub read-place : (s : List ℕ) (at : ℕ) → readPlace (fieldAt s at) ≡ at
 unfolding fieldIn
 read-place s at =

@@ -1,4 +1,4 @@
--- Document 01, "Files": one table of tags and widths, and from it both what a file says at a place and the bytes of a field.
+-- RULES 3.2 to 3.4: one table of tags and widths, and from it both what a file says at a place and the bytes of a field.
 use Prim.Native.Nat.{ℕ, zero, suc, _+_, _*_, _/_, _%_, _<_, _^_}
 use mathlib.Core.List.{List, [], _∷_, _++_}
 use mathlib.Core.Bool.{Bool}
@@ -18,7 +18,7 @@ use Rattle.field.specs.declared.DueRead.the-variants.{Got as Found, Refu
 use Rattle.field.specs.declared.Wrote.{Wrote}
 use Rattle.field.specs.declared.Wrote.the-variants.{Bytes, Refused as NotWritten}
 
--- ---- numbers, high byte first
+-- ---- numbers, high byte first: RULES 3.3
 
 -- the number in the w bytes from index k on
 abbrev pub numberAt : ℕ → List ℕ → ℕ → ℕ
@@ -46,7 +46,7 @@ abbrev pub sum : List ℕ → ℕ
 sum [] = 0
 sum (w ∷ ws) = w + sum ws
 
--- ---- the table
+-- ---- the table: RULES 3.4
 
 -- a tag, and the widths of the numbers that follow the length
 abbrev pub table : List (ℕ × List ℕ)
@@ -101,7 +101,7 @@ valueOf t ns =
 abbrev pub valueIn : ℕ → List ℕ → Value
 valueIn t l = valueOf t (numbersAt (widthsOf t) l 3)
 
--- what a file says at the place at, l being its bytes from there on: "a short header 1, then 2, then a short body"
+-- RULES 5.1 a, b, c: what a file says at the place at, l being its bytes from there on
 unfoldable pub fieldIn : ℕ → List ℕ → FieldRead
 fieldIn at l =
     pick (ltb (length l) 3) (Refused (FileEnds at))
@@ -114,7 +114,7 @@ fieldIn at l =
 abbrev pub fieldAt : List ℕ → ℕ → FieldRead
 fieldAt s at = fieldIn at (drop at s)
 
--- "tag unknown or not due there" is 2 and comes before a short body, so a body that is cut is 1 only where its tag is due
+-- RULES 5.1: 2 comes before a short body, so a body that is cut is 1 only where its tag is due
 abbrev pub cutAt : Bool → ℕ → Refusal
 cutAt due place = pick due (FileEnds place) (NotDue place)
 
@@ -129,7 +129,7 @@ dueAt tag s at = dueIn tag (fieldAt s at)
 
 -- ---- writing
 
--- "a one-byte tag, a two-byte length and a value"
+-- tag, length and value, each with its width
 abbrev pub bytesOf : Value → List ℕ
 bytesOf v = bytesOfAll (1 ∷ 2 ∷ widthsOf (tagOf v)) (tagOf v ∷ lengthOf (tagOf v) ∷ numbersOf v)
 
@@ -150,7 +150,7 @@ Fit (w ∷ ws) [] = ⊥
 abbrev pub Fitting : Value → Type 0
 Fitting v = Fit (widthsOf (tagOf v)) (numbersOf v)
 
--- ---- "Numbers given back"
+-- ---- numbers and places: RULES 4.1, 4.3
 
 -- a cut body is 1 where its tag is due, which the caller says, and 2 where it is not
 abbrev pub readNumber : (ℕ → Bool) → FieldRead → ℕ

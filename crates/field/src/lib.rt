@@ -3,7 +3,7 @@ use rules::Entry;
 use rules::Limits;
 use rules::Refusal;
 
-// The values of a field.
+// The six things that a field is, each with its values: RULES 3.4, 3.12.
 pub enum Value {
     Limits(Limits),
     Branch {
@@ -21,7 +21,7 @@ pub enum Value {
     End,
 }
 
-// A field that has been read, with the byte where it starts.
+// A field that has been read, with the byte where it begins.
 pub struct Field {
     pub at: usize,
     pub value: Value,
@@ -30,7 +30,7 @@ pub struct Field {
 // What reading at a place finds.
 pub enum FieldRead {
     Got(Field),
-    // Tag and length are right and the file ends inside the body: 1 where the tag is due, 2 where it is not.
+    // Tag and length are right and the body is not all there: 1 where the tag is due, 2 where it is not.
     Cut { tag: u8, place: usize },
     Refused(Refusal),
 }

@@ -1,4 +1,4 @@
-// A field of a file, read.
+// A field of a file, read: RULES 6.22.
 ghost use mathlib.Core.Path.{_≡_};
 ghost use Prim.Native.Nat.{_+_, _<_, _≤_};
 ghost use lib.ListN.{length, getD};
@@ -120,7 +120,7 @@ fn field_in(f: &[u8], at: usize) -> FieldRead
     }
 }
 
-// The field at a place of a file, or why there is none.
+// The field at a place of a file, or why there is none, in the order of RULES 5.1.
 pub fn read_field(s: &[u8], at: usize) -> FieldRead
     ensures { λ r. ⌜ r ≡ fieldAt (now (s .entry)) at ⌝ }
 {

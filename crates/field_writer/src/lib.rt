@@ -1,4 +1,4 @@
-// A field of a file, written.
+// A field of a file, written: RULES 6.23.
 ghost use mathlib.Core.Path.{_≡_};
 ghost use mathlib.Core.List.{[], _∷_, _++_};
 ghost use Prim.Native.Nat.{_+_, _≤_};
@@ -110,7 +110,7 @@ pub fn size(v: Value) -> usize
     }
 }
 
-// Writes a field at the front of what is lent.
+// Writes a field at the front of what is lent, or nothing where it does not fit.
 pub fn write_field(out: &mut [u8], v: Value) -> Wrote
     ensures { λ r. ⌜ (r ≡ wrote (bytesOf v) (now (out .entry))) × (now (out .exit) ≡ laid (bytesOf v) (now (out .entry))) ⌝ }
 {

@@ -1,4 +1,4 @@
-// The judge of a placement's columns: whether a file can hold them.
+// The judge of a placement's columns: whether a file can hold them (RULES 3.9, 5.9).
 ghost use mathlib.Core.Path.{_≡_};
 ghost use Prim.Native.Nat.{_<_};
 ghost use lib.ListN.{length};

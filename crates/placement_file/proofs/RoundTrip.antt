@@ -1,4 +1,4 @@
--- Demand 2 for placements. A file that is read is byte for byte the file of its entries: each field stands in it, one where the last one ended.
+-- RULES 3.13 for placements. A file that is read is byte for byte the file of its entries: each field stands in it, one where the last one ended.
 -- The file of entries in their ranges is read as those entries: each field comes back from its bytes.
 use Prim.Native.Nat.{ℕ, zero, suc, _+_, _-_, _<_, _≤_}
 use native.Mathlib.Nat.{add-zero}

@@ -1,4 +1,4 @@
--- Demand 2 over the calls' contracts: a placement file read and written again gives the same bytes, a placement written and read again the same placement.
+-- RULES 3.13 over the calls' contracts: a placement file read and written again gives the same bytes, a placement written and read again the same placement.
 use Prim.Native.Nat.{ℕ, _≤_, min}
 use native.Mathlib.Omega.{arith}
 use mathlib.Core.Path.{_≡_, refl, sym, ap, _∙_}

@@ -1,4 +1,4 @@
--- Document 01, "Files": what a placement file says, what two columns say, and what the reader and the writer answer and leave.
+-- RULES 3.7, 3.9, 6.8, 6.9: what a placement file says, what two columns say, and what the reader and the writer answer and leave.
 use Prim.Native.Nat.{ℕ, _+_, _*_, min}
 use mathlib.Core.Path.{_≡_}
 use mathlib.Core.List.{List, [], _∷_, _++_, map}
@@ -45,21 +45,21 @@ countIn d = getD (numbersIn 17 d) 0 0
 abbrev pub entryIn : DueRead → Entry
 entryIn d = record { wire = getD (numbersIn 18 d) 0 0; offset = getD (numbersIn 18 d) 1 0 }
 
--- "wire numbers run 1 to 1,024 and offsets to 10,000,000"
+-- RULES 3.9: the ranges of an entry in a file
 abbrev pub entryInRange : Entry → Bool
 entryInRange e = both (ltb 0 (e .wire)) (both (leb (e .wire) mostNodes) (leb (e .offset) mostWire))
 
--- ---- a file: "one 11, that many 12, then 7F"
+-- ---- a file: RULES 3.7, the count, as many entries as it says, the end
 
 -- the number of entries that the front of a file says
 unfoldable pub owed : List ℕ → ℕ
 owed s = countIn (dueAt 17 s 0)
 
--- 0 to 4,096
+-- a count that no file can hold is 3
 unfoldable pub countJudged : List ℕ → Judged
 countJudged s = thenJudge (due (dueAt 17 s 0)) (unless (leb (owed s) mostEntries) (OutOfRange 0))
 
--- the byte where entry i starts, and where the end does after i entries
+-- RULES 3.11: the byte where entry i begins, and where the end does after i entries
 abbrev pub startOf : ℕ → ℕ
 startOf i = 5 + 9 * i
 
@@ -69,7 +69,7 @@ entryAt s i = entryIn (dueAt 18 s (startOf i))
 unfoldable pub entryJudged : List ℕ → ℕ → Judged
 entryJudged s i = thenJudge (due (dueAt 18 s (startOf i))) (unless (entryInRange (entryAt s i)) (OutOfRange (startOf i)))
 
--- "After 7F comes 6"
+-- RULES 5.3: 6 when the end has been read
 unfoldable pub endJudged : List ℕ → ℕ → Judged
 endJudged s at = thenJudge (due (dueAt 127 s at)) (unless (leb (length s) (at + 3)) (BytesAfterEnd (at + 3)))
 
@@ -103,7 +103,7 @@ placementOf s = outcome (fileJudged s) (listed (entryAt s) (owed s) 0)
 abbrev pub columnEntry : List ℕ → List ℕ → ℕ → Entry
 columnEntry vs os i = record { wire = getD vs i 0; offset = getD os i 0 }
 
--- "3: value outside its range", at an entry
+-- RULES 5.9: 3 of an entry, at its number
 unfoldable pub rangeJudged : List ℕ → List ℕ → ℕ → Judged
 rangeJudged vs os i = unless (entryInRange (columnEntry vs os i)) (OutOfRange i)
 
@@ -118,12 +118,12 @@ columnsOf vs os = outcome (columnsJudged vs os) (entries vs os)
 
 -- ---- the reader
 
--- "Columns lent to be filled may differ in length; the shortest is the room": 9 with the number of entries
+-- RULES 6.2: the shorter column is the room; 9 with the number of entries
 abbrev pub answer : ℕ → Outcome → PlacementRead
 answer room (refused r) = Refused r
 answer room (placement es) = pick (ltb room (length es)) (Refused (NoRoom (length es))) (Read (length es))
 
--- "Success writes the needed places and no others", and a refusal none
+-- RULES 6.3, 4.2: success writes as many places as there are entries, and a refusal none
 abbrev pub filled : ℕ → Outcome → (Entry → ℕ) → List ℕ → List ℕ
 filled room (refused r) f col = col
 filled room (placement es) f col = pick (ltb room (length es)) col (sets col 0 (map f es))

@@ -1,4 +1,4 @@
-// A placement file, read into two lent columns.
+// A placement file, read into two lent columns: RULES 6.8.
 ghost use mathlib.Core.Path.{_≡_};
 ghost use mathlib.Core.List.{map};
 ghost use Prim.Native.Nat.{_<_, _≤_};
@@ -146,7 +146,7 @@ fn fill(s: &[u8], count: usize, wires: &mut [u16], offsets: &mut [u32])
     }
 }
 
-// Reads a placement file into the columns. The whole file is judged before anything is written.
+// Reads a placement file into the columns. The whole file is judged, in the order of RULES 5.1 and 5.3, before anything is written.
 pub fn read_placement(s: &[u8], wires: &mut [u16], offsets: &mut [u32]) -> PlacementRead
     ensures { λ r. ⌜ ReadAs (placementOf (now (s .entry))) (now (wires .entry)) (now (offsets .entry)) (now (wires .exit)) (now (offsets .exit)) r ⌝ }
 {

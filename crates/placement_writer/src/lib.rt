@@ -1,4 +1,4 @@
-// A placement file, written from two columns.
+// A placement file, written from two columns: RULES 6.9.
 ghost use mathlib.Core.Path.{_≡_};
 ghost use Prim.Native.Nat.{_+_, _*_, _≤_};
 ghost use lib.ListN.{length};
@@ -11,7 +11,7 @@ use placement_file::PlacementWrote;
 use rules::Judged;
 use rules::Refusal;
 
-// Writes the count, the entries and the end, each into the part of the buffer that begins where the last one ended.
+// Writes the count, the entries and the end, each to the rest of the buffer, right behind its predecessor.
 fn write_fields(wires: &[u16], offsets: &[u32], out: &mut [u8])
     requires { ⌜ (length (now offsets) ≡ length (now wires)) × (length (now wires) ≤ 4096) × (8 + 9 * length (now wires) ≤ length (now out)) ⌝ }
     ensures { λ _. ⌜ now (out .exit) ≡ sets (now (out .entry)) 0 (placementBytes (entries (now (wires .entry)) (now (offsets .entry)))) ⌝ }
@@ -29,7 +29,7 @@ fn write_fields(wires: &[u16], offsets: &[u32], out: &mut [u8])
     field_writer::write_field(&mut out[at..], Value::End);
 }
 
-// Writes the file of a placement. The columns are judged, and the room, before anything is written.
+// Writes the file of a placement. The columns are judged, and the room, in the order of RULES 5.9, before anything is written.
 pub fn write_placement(wires: &[u16], offsets: &[u32], out: &mut [u8]) -> PlacementWrote
     ensures { λ r. ⌜ WroteAs (columnsOf (now (wires .entry)) (now (offsets .entry))) (now (out .entry)) (now (out .exit)) r ⌝ }
 {

@@ -1,4 +1,4 @@
--- `write_fields` lays the count, each entry and the end, each in the part that begins where the last one ended.
+-- `write_fields` lays the count, each entry and the end, each in the rest of the buffer, behind its predecessor.
 use Prim.Native.Nat.{_-_}
 use denote.Ref.{now}
 use mathlib.Core.Path.{refl, ap, _∙_}
