@@ -1,10 +1,7 @@
 -- What the proofs of several functions use.
-pub mod CheckedIsLegal
-pub mod Walks
-pub mod Inverters
-pub mod Standing
-pub mod Senses
+pub mod Walk
 pub mod Weighing
-pub mod Stored
-pub mod Determined
+pub mod CheckedIsLegal
 pub mod VerdictSays
+pub mod Numbers
+pub mod Determined

@@ -3,16 +3,16 @@ use Prim.Native.Nat.{ℕ, _≤_, _<_}
 use mathlib.Core.Path.{_≡_, refl, ap}
 use mathlib.Core.List.{List}
 use native.Mathlib.Omega.{arith}
-use lib.Dec.{eqb, leb}
 use lib.ListN.{length, getD}
-use borrow.Author.Tests.{eqb-true, leb-true}
 use Rattle.rules.specs.declared.Judged.{Judged}
 use Rattle.rules.specs.declared.Judged.the-variants.{Sound, Refused}
 use Rattle.rules.specs.declared.Refusal.{Refusal}
+use Rattle.rules.specs.declared.Refusal.the-variants.{WrongColumns}
 use Rattle.rules.specs.Figures.{mostEntries}
 use Rattle.rules.specs.Net.{Net, places}
 use Rattle.rules.specs.Legal.{start}
-use Rattle.rules.proofs.Tests.{both-met}
+use Rattle.rules.proofs.Judging.{unless-true}
+use Rattle.rules.proofs.Numbers.{PlacementFits, columns-tested}
 use Rattle.load.proofs.Order.{stands-at}
 use Rattle.checker.specs.declared.Verdict.{Verdict}
 use Rattle.checker.specs.Verdict.{verdictOf, LegalColumns}
@@ -26,11 +26,14 @@ verdict-legal Sound count source c s e = refl
 verdict-legal (Refused x) count source c s e = absurd (let z : _≡_ {A = ℕ} 0 1 = cc in omega arith)
 
 module _ {n : Net} {vs os : List ℕ} (l : LegalColumns n vs os) where
+  columns-fit : PlacementFits vs os
+  columns-fit = columns-tested vs os .exactly .0 (unless-true (l .fit) WrongColumns)
+
   pub columns-even : length os ≡ length vs
-  columns-even = eqb-true (length os) (length vs) (both-met (eqb (length os) (length vs)) (leb (length vs) mostEntries) (l .fit) .0)
+  columns-even = columns-fit .even
 
   pub columns-few : length vs ≤ mostEntries
-  columns-few = leb-true (length vs) mostEntries (both-met (eqb (length os) (length vs)) (leb (length vs) mostEntries) (l .fit) .1)
+  columns-few = columns-fit .few
 
   pub columns-within : (k : ℕ) → k < length vs → getD vs k 0 < places n
   columns-within k h = stands-at n start vs os (l .legal .stands) columns-even k h .within

@@ -1,4 +1,1 @@
 pub mod Verdict
-pub mod Stands
-pub mod Parity
-pub mod Listing

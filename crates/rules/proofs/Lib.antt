@@ -13,3 +13,7 @@ pub mod Containing
 pub mod Examples
 pub mod Refusals
 pub mod JudgedNumbers
+pub mod Judging
+pub mod LegalJudged
+pub mod Eased
+pub mod Numbers

@@ -1,6 +1,7 @@
 -- `checker::check` meets its contract: the net's refusals, 7 and 10, and then 11 and 12 (Weighing.antt).
 use mathlib.Core.Path.{_∙_}
-use Rattle.checker.proofs.Weighing.{begun-says, begun-refused, weighed-last}
+use Rattle.standing.proofs.Begun.{begun-says}
+use Rattle.checker.proofs.Weighing.{begun-refused, weighed-last}
 use borrow.Author.Needs.{needs}
 use Rattle.checker.proofs.check.Statement.{statement}
 use Rattle.checker.proofs.check.Tie as tie
@@ -9,16 +10,16 @@ use Rattle.checker.proofs.check.Tie as tie
 abbrev start : tie.After-shared-slice-known7 → tie.Start
 start c = c .before .before .before .before .before .before .before
 
-begin-requires : tie.Need-begin-requires
-begin-requires c κs = search needs
+judge-requires : tie.Need-judge-requires
+judge-requires c κs = search needs
 
-enum-known-begun : tie.Need-enum-known-begun
-enum-known-begun c = search needs
+enum-known-stands : tie.Need-enum-known-stands
+enum-known-stands c = search needs
 
 returns : tie.Need-returns
 returns c =
     let s = start (c .before .before .before .before) in
-    begun-refused _ (s .args .wires .now) (s .args .offsets .now) _ (c .before .before .before .begin .ensures) _ (c .before .begun .given .1)
+    begun-refused _ (s .args .wires .now) (s .args .offsets .now) _ (c .before .before .before .judge .ensures) _ (c .before .stands .given .1)
 
 enum-told : tie.Need-enum-told
 enum-told c = search needs
@@ -26,13 +27,13 @@ enum-told c = search needs
 weigh-requires : tie.Need-weigh-requires
 weigh-requires c κs =
     let s = start (c .before .before .before) in
-    begun-says _ (s .args .wires .now) (s .args .offsets .now) _ (c .before .before .begin .ensures) (c .enum-told .given .1)
+    begun-says _ (s .args .wires .now) (s .args .offsets .now) _ (c .before .before .judge .ensures) (c .enum-told .given .1)
 
 returns-2 : tie.Need-returns-2
 returns-2 c =
     let s = start (c .before .before .before .before) in
-    c .weigh .ensures ∙ weighed-last _ (s .args .wires .now) (s .args .offsets .now) _ (c .before .before .before .begin .ensures) (c .before .enum-told .given .1)
+    c .weigh .ensures ∙ weighed-last _ (s .args .wires .now) (s .args .offsets .now) _ (c .before .before .before .judge .ensures) (c .before .enum-told .given .1)
 
 pub check-spec : {M : Type 1} → statement M
 check-spec =
-    tie.close (tie.spec begin-requires enum-known-begun returns enum-told weigh-requires returns-2)
+    tie.close (tie.spec judge-requires enum-known-stands returns enum-told weigh-requires returns-2)

@@ -8,7 +8,7 @@ use Rattle.rules.specs.Net.{net}
 use Rattle.rules.specs.Load.{entries, offsetsOn, driven}
 use Rattle.rules.specs.Checked.{withinLimit}
 use Rattle.load.proofs.Wire.{driven-length}
-use Rattle.checker.proofs.Walks.{within-next, within-stop, within-end}
+use Rattle.checker.proofs.Walk.{within-next, within-stop, within-end}
 use Rattle.checker.proofs.entries_within_limit.Statement.{statement}
 use Rattle.checker.proofs.entries_within_limit.Tie as tie
 

@@ -18,20 +18,20 @@ cast-most c = search needs
 returns : tie.Need-returns
 returns c = let s = start (c .before .before .before) in source-over _ (s .args .wires .now) (s .args .offsets .now) _ (c .before .before .load-below .ensures _ _ (source-asked (s .pre))) (c .if1 .taken)
 
-judge-senses-requires : tie.Need-judge-senses-requires
-judge-senses-requires c κs = search needs
+judge-requires : tie.Need-judge-requires
+judge-requires c κs = search needs
 
 enum-known-senses : tie.Need-enum-known-senses
 enum-known-senses c = search needs
 
 returns-2 : tie.Need-returns-2
-returns-2 c = let s = start (c .before .before .before .before .before .before .before) in senses-over _ (s .args .wires .now) (s .args .offsets .now) _ (c .before .before .before .before .before .before .load-below .ensures _ _ (source-asked (s .pre))) (c .before .before .before .before .if1 .left) _ (c .before .before .before .judge-senses .ensures) _ (c .before .senses .given .1)
+returns-2 c = let s = start (c .before .before .before .before .before .before .before) in senses-over _ (s .args .wires .now) (s .args .offsets .now) _ (c .before .before .before .before .before .before .load-below .ensures _ _ (source-asked (s .pre))) (c .before .before .before .before .if1 .left) _ (c .before .before .before .judge .ensures) _ (c .before .senses .given .1)
 
 enum-told : tie.Need-enum-told
 enum-told c = search needs
 
 returns-3 : tie.Need-returns-3
-returns-3 c = let s = start (c .before .before .before .before .before .before) in all-legal _ (s .args .wires .now) (s .args .offsets .now) _ (c .before .before .before .before .before .load-below .ensures _ _ (source-asked (s .pre))) (c .before .before .before .if1 .left) _ (c .before .before .judge-senses .ensures) (c .enum-told .given .1)
+returns-3 c = let s = start (c .before .before .before .before .before .before) in all-legal _ (s .args .wires .now) (s .args .offsets .now) _ (c .before .before .before .before .before .load-below .ensures _ _ (source-asked (s .pre))) (c .before .before .before .if1 .left) _ (c .before .before .judge .ensures) (c .enum-told .given .1)
 
 pub settle-spec : {M : Type 1} → statement M
 settle-spec =
@@ -40,7 +40,7 @@ settle-spec =
     load-below-requires
     cast-most
     returns
-    judge-senses-requires
+    judge-requires
     enum-known-senses
     returns-2
     enum-told
