@@ -15,12 +15,12 @@ use Rattle.rules.specs.Checked.{checked}
 use Rattle.rules.specs.Ease.{carried, easeJudged}
 use Rattle.rules.proofs.Tests.{both-true, then-met}
 use Rattle.rules.proofs.EaseKeepsLegal.{ease-keeps-legal}
+use Rattle.rules.proofs.Eased.{eased-says}
 use Rattle.checker.specs.Verdict.{LegalColumns}
 use Rattle.checker.proofs.CheckedIsLegal.{checked-is-legal}
 use Rattle.checker.proofs.VerdictSays.{columns-even, columns-few}
 use Rattle.carry.specs.declared.Outcome.{Outcome}
 use Rattle.carry.specs.Carry.{firstNet, secondNet, placementOf, offsetsOf, columnAfter, CarriedIs}
-use Rattle.carry.proofs.Eased.{eased-says}
 use Rattle.carry.proofs.Cut.{cut-length, cut-entries}
 
 -- an outcome that carries comes from three judgements that passed

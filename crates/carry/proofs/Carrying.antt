@@ -15,13 +15,13 @@ use Rattle.net.specs.Counted.{unlimited, Level}
 use Rattle.rules.specs.Checked.{checked}
 use Rattle.rules.specs.Ease.{carried, easeJudged}
 use Rattle.rules.proofs.SoundSays.{sound-says}
+use Rattle.rules.proofs.Eased.{eased-says}
 use Rattle.checker.specs.declared.Verdict.{Verdict}
 use Rattle.checker.specs.Verdict.{verdict, LegalColumns}
 use Rattle.checker.proofs.CheckedIsLegal.{checked-is-legal}
 use Rattle.checker.proofs.VerdictSays.{verdict-refused, verdict-legal, columns-even, columns-within}
 use Rattle.carry.specs.declared.Outcome.{Outcome}
 use Rattle.carry.specs.Carry.{offsetsOf, CarriedIs, OnWires}
-use Rattle.carry.proofs.Eased.{eased-says}
 
 -- a sound net's columns, without its limits
 pub level : {n : Net} → SoundNet n → Level (record { limits = unlimited; parents = n .parents; wires = n .wires; kinds = n .kinds; pins = n .pins; polarities = n .polarities })

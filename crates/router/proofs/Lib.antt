@@ -1,2 +1,3 @@
 pub mod Routing
+pub mod Numbers
 pub mod LegalFiles

@@ -23,10 +23,6 @@ use Rattle.field.proofs.Numbers.{AreBytes}
 use Rattle.field.proofs.Listing.{length-listed}
 use Rattle.net_file.specs.declared.NetRead.{NetRead}
 use Rattle.net_file.specs.declared.NetRead.the-variants.{Read as NetWasRead, Refused as NetRefused}
-use Rattle.rules.specs.Refusal.{judgedNumber}
-use Rattle.rules.specs.Load.{entries, offsetsOn, sourceDrives}
-use Rattle.rules.specs.Checked.{checked}
-use Rattle.checker.specs.Verdict.{verdictOf, verdictNumber, verdict}
 use Rattle.net_file.specs.NetFile as net_file
 use Rattle.net_file.specs.NetFile.{netOf, room, firstPlaces, ReadNet}
 use Rattle.net_file.proofs.ReadWrite.{Same, same-bytes, answered-read, read-net, front-is}
@@ -37,14 +33,6 @@ use Rattle.placement_file.proofs.Judging.{sound-few}
 
 never : {A : Type 0} → _≡_ {A = ℕ} 0 1 → A
 never e = absurd (omega arith)
-
--- the checker's verdict as a number
-pub verdict-number : (n : Net) (vs os : List ℕ) → verdictNumber (verdict n vs os) ≡ judgedNumber (checked n vs os)
-verdict-number n vs os = by (checked n vs os)
-  where
-    by : (j : Judged) → verdictNumber (verdictOf j (length vs) (sourceDrives n (offsetsOn (entries vs os)))) ≡ judgedNumber j
-    by Sound = refl
-    by (Unsound x) = refl
 
 -- ---- the net file
 
@@ -68,7 +56,7 @@ net-refused {s} {lent} {left} {r} {x} by long a e = told (netOf s) refl (sym e �
 
 -- ---- the placement file
 
-few-entries : (s : List ℕ) (es : List Entry) → placementOf s ≡ placement es → length es ≤ mostEntries
+pub few-entries : (s : List ℕ) (es : List Entry) → placementOf s ≡ placement es → length es ≤ mostEntries
 unfolding placementOf
 few-entries s es e = by (fileJudged s) refl e
   where

@@ -10,7 +10,7 @@ and-requires-2 : tie.Need-and-requires-2
 and-requires-2 c κs = search needs
 
 returns : tie.Need-returns
-returns c = cc
+returns c = rw (c .and2 .ensures, c .before .and .ensures)
 
 pub limits-ease-spec : {M : Type 1} → statement M
 limits-ease-spec = tie.close (tie.spec and-requires and-requires-2 returns)

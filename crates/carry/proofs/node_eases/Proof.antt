@@ -16,7 +16,7 @@ and-requires-4 : tie.Need-and-requires-4
 and-requires-4 c κs = search needs
 
 returns : tie.Need-returns
-returns c = cc
+returns c = rw (c .and4 .ensures, c .before .and3 .ensures, c .before .before .before .before .before .before .and2 .ensures, c .before .before .before .before .before .before .before .and .ensures)
 
 pub node-eases-spec : {M : Type 1} → statement M
 node-eases-spec =

@@ -2,7 +2,7 @@
 use mathlib.Core.Path.{sym, ap, _∙_}
 use lib.Seq.{length-take-le}
 use Rattle.checker.specs.Verdict.{verdictNumber}
-use Rattle.router.proofs.Routing.{verdict-number}
+use Rattle.checker.proofs.Numbers.{verdict-number}
 use borrow.Author.Needs.{needs}
 use Rattle.router.proofs.check_entries.Statement.{statement}
 use Rattle.router.proofs.check_entries.Tie as tie
