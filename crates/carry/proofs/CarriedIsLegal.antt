@@ -1,4 +1,4 @@
--- "A carried placement is legal": after success the columns hold a legal placement of the second net. The cut column holds the carried entries, and easing keeps every legal placement.
+-- RULES 6.19: after success the columns hold a legal placement of the second net. The cut column holds the carried entries, and easing keeps every legal placement.
 use Prim.Native.Nat.{ℕ}
 use mathlib.Core.Path.{_≡_, refl, sym, ap, _∙_}
 use mathlib.Core.List.{List}

@@ -1,4 +1,4 @@
--- Document 01's row: the carry of offsets 6 and 14 from wire 15, pin 4 to wire 10 gives 6 and 10. And what each refusal names.
+-- The example of RULES 9.14, and what each refusal names.
 use Prim.Native.Nat.{ℕ}
 use mathlib.Core.Path.{_≡_, refl}
 use mathlib.Core.List.{List, [], _∷_}

@@ -1,4 +1,4 @@
--- Document 01, the carry: "first net, second net (a refusal of a net names which of the two, all other refusals name neither), 13, then the placement on the first net as the checker does."
+-- What the carry answers and leaves in the column of offsets (RULES 6.14 to 6.18), its refusals in the order of RULES 5.13.
 use Prim.Native.Nat.{ℕ, _<_}
 use mathlib.Core.Path.{_≡_}
 use mathlib.Core.List.{List, map}
@@ -15,7 +15,7 @@ use Rattle.rules.specs.Ease.{carried, easeJudged}
 use Rattle.carry.specs.declared.Outcome.{Outcome}
 use Rattle.carry.specs.declared.Outcome.the-variants.{Carried, FirstNet, SecondNet, Refused}
 
--- in document 01's numbers: 0 is success
+-- 0 for a placement that was carried, or the refusal's number
 abbrev pub outcomeNumber : Outcome → ℕ
 outcomeNumber (Carried count) = 0
 outcomeNumber (FirstNet r) = numberOf r
@@ -29,14 +29,14 @@ outcomeCount (FirstNet r) = placeOf r
 outcomeCount (SecondNet r) = placeOf r
 outcomeCount (Refused r) = placeOf r
 
--- "a refusal of a net names which of the two, all other refusals name neither": 1, 2, or 0 for neither
+-- which of the two nets a refusal means (RULES 6.15): 1, 2, or 0 for neither
 abbrev pub whichNet : Outcome → ℕ
 whichNet (Carried count) = 0
 whichNet (FirstNet r) = 1
 whichNet (SecondNet r) = 2
 whichNet (Refused r) = 0
 
--- which of the two nets a refusal is of
+-- each net's own refusals come before all that follows
 abbrev pub firstNet : Judged → Outcome → Outcome
 firstNet judgements.Sound next = next
 firstNet (judgements.Refused r) next = FirstNet r
@@ -45,7 +45,7 @@ abbrev pub secondNet : Judged → Outcome → Outcome
 secondNet judgements.Sound next = next
 secondNet (judgements.Refused r) next = SecondNet r
 
--- "the answer is the number of entries"
+-- success says how many entries there are
 abbrev pub placementOf : Judged → ℕ → Outcome
 placementOf judgements.Sound count = Carried count
 placementOf (judgements.Refused r) count = Refused r
@@ -58,7 +58,7 @@ outcome n m vs os = firstNet (judged n) (secondNet (judged m) (placementOf (then
 abbrev pub offsetsOf : List Entry → List ℕ
 offsetsOf p = map (λ (e : Entry). e .offset) p
 
--- "Then every offset in the lent column becomes the smaller of itself and the new wire": a refusal leaves the column as it came
+-- the offsets afterwards: cut to the second net's wires (RULES 6.18), and after a refusal as they came
 abbrev pub columnAfter : Outcome → Net → List ℕ → List ℕ → List ℕ
 columnAfter (Carried count) m vs os = offsetsOf (carried m (entries vs os))
 columnAfter (FirstNet r) m vs os = os

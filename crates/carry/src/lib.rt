@@ -134,7 +134,7 @@ fn judge_ease(
     )
 }
 
-// Takes a placement of the first net to the second: first net, second net, 13, the placement as the checker judges it; then the offsets are cut.
+// Takes a placement of the first net to the second (RULES 6.14): both nets' refusals, 13, the checker's on the first net; then the offsets are cut.
 pub fn carry(
     limits: Limits,
     parent: &[u16],

@@ -1,19 +1,19 @@
 -- The checker's numbers: it answers k exactly where the cases below say so, and so no other number.
 use Prim.Native.Nat.{ℕ}
-use mathlib.Core.Path.{_≡_, refl, sym, ap, _∙_}
+use mathlib.Core.Path.{_≡_, refl, sym, _∙_}
 use mathlib.Core.Logic.{_↔_}
 use mathlib.Core.List.{List}
 use lib.ListN.{length}
 use Rattle.rules.specs.declared.Judged.{Judged}
 use Rattle.rules.specs.declared.Judged.the-variants.{Sound, Refused}
 use Rattle.rules.specs.declared.Refusal.the-variants.{WrongColumns}
-use Rattle.rules.specs.Refusal.{numberOf, judgedNumber}
+use Rattle.rules.specs.Refusal.{judgedNumber}
 use Rattle.rules.specs.Net.{Net}
 use Rattle.rules.specs.Load.{entries, offsetsOn, sourceDrives}
 use Rattle.rules.specs.Judge.{unless, thenJudge, judged}
 use Rattle.rules.specs.Checked.{placementFits, placementJudged, columnsJudged, checked}
 use Rattle.rules.proofs.Judging.{Tested, held, failed, tested, then-next, then-stops, exactly-where}
-use Rattle.rules.proofs.Numbers.{PlacementGives, placement-numbers, PlacementFits, columns-tested, NetRefuses}
+use Rattle.rules.proofs.Numbers.{PlacementGives, placement-numbers, PlacementFits, columns-tested, NetRefuses, NetNumber, wrong-columns as columns-number, net-number}
 use Rattle.checker.specs.declared.Verdict.{Verdict}
 use Rattle.checker.specs.Verdict.{verdictOf, verdictNumber, verdict}
 
@@ -54,3 +54,12 @@ module _ (n : Net) (vs os : List ℕ) where
 
   pub check-numbers : {r : Verdict} → r ≡ verdict n vs os → (k : ℕ) → (verdictNumber r ≡ k) ↔ CheckGives n vs os k
   check-numbers e k = rw (e, verdict-number n vs os) (checked-numbers k)
+
+  -- 3, 4, 5 and 7 may be the net's: any other number is given exactly where the net is sound, the columns fit and the placement gives it
+  pub check-other-numbers : {r : Verdict} → r ≡ verdict n vs os → (k : ℕ) → (NetNumber k → ⊥) → (verdictNumber r ≡ k) ↔ ((judged n ≡ Sound) × PlacementFits vs os × PlacementGives n (entries vs os) k)
+  check-other-numbers e k other = (λ q. says (check-numbers e k .0 q), λ p. check-numbers e k .1 (of-placement (p .0) (p .1) (p .2)))
+    where
+      says : CheckGives n vs os k → (judged n ≡ Sound) × PlacementFits vs os × PlacementGives n (entries vs os) k
+      says (of-net x) = absurd (other (net-number x))
+      says (wrong-columns q s not) = absurd (other (columns-number q))
+      says (of-placement s fit g) = (s, fit, g)

@@ -1,4 +1,4 @@
--- Document 01, "Numbers given back": "A judged placement answers its count and the source's load."
+-- What the checker answers (RULES 6.12): the number of entries and what the source drives, or the first refusal in the order of RULES 5.11.
 use Prim.Native.Nat.{ℕ}
 use mathlib.Core.Path.{_≡_}
 use mathlib.Core.Bool.{true}

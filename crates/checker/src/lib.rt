@@ -191,7 +191,7 @@ fn weigh(
     )
 }
 
-// Judges a placement: the net's refusals, 7, 10, 11, 12, or its count and the source's load.
+// Judges a placement on a net, whoever made it (RULES 6.12): the net's refusals, 7, 10, 11, 12, or how many entries it has and what the source drives.
 pub fn check(
     limits: Limits,
     parent: &[u16],

@@ -20,8 +20,8 @@ use Rattle.rules.specs.Checked.{placementFits, placedFrom}
 use Rattle.rules.specs.Sound.{SoundNet}
 use Rattle.rules.proofs.SoundSays.{sound-says}
 use Rattle.rules.proofs.Tests.{both-met, unless-met, then-met}
-use Rattle.checker.proofs.CheckedIsLegal.{placed-order}
-use Rattle.checker.specs.Stands.{stood}
+use Rattle.rules.proofs.LegalJudged.{placed-order}
+use Rattle.standing.specs.Stands.{stood}
 use Rattle.finish.specs.Given.{Stood}
 use Rattle.finish.specs.declared.Finished.{Finished}
 use Rattle.finish.specs.declared.Finished.the-variants.{Refused}

@@ -12,7 +12,7 @@ use Rattle.rules.specs.Net.{Net}
 use Rattle.rules.specs.Refusal.{numberOf, placeOf}
 use Rattle.rules.specs.Complete.{Completes, LeastAdded, NoneCompletes}
 use Rattle.rules.specs.Judge.{unless, thenJudge, judged}
-use Rattle.checker.specs.Stands.{stood}
+use Rattle.standing.specs.Stands.{stood}
 use Rattle.columns.specs.Columns.{roomIn, Kept, Holds}
 use Rattle.finish.specs.declared.Finished.{Finished}
 use Rattle.finish.specs.declared.Finished.the-variants.{Added, Refused}

@@ -118,7 +118,7 @@ fn judge_half(
     if repeater != 0 {
         return rules::Judged::Refused(rules::Refusal::OutOfRange(0));
     }
-    checker::entries_stand(wire, given, offsets)
+    standing::entries_stand(wire, given, offsets)
 }
 
 // The entries that are added into the lent columns, or a refusal that leaves them as they came.

@@ -20,7 +20,7 @@ use Rattle.rules.proofs.Tests.{unless-met}
 use Rattle.rules.proofs.Judging.{unless-true, unless-only, then-assoc, Tests, Tested, held, failed, tested, stops, then-next, then-stops, exactly-where}
 use Rattle.rules.proofs.LegalJudged.{order-tested}
 use Rattle.rules.proofs.Numbers.{PlacementFits, columns-tested, NetRefuses}
-use Rattle.standing.specs.Stands.{stood, begun}
+use Rattle.standing.specs.Stands.{stood}
 use Rattle.listing.specs.declared.Listed.{Listed}
 use Rattle.listing.specs.Listing.{listJudged, listedOf, listedNumber, ListedIs}
 

@@ -1,4 +1,5 @@
--- What the list of loads answers: the net's refusals, 7, 10, then 9 with the number of entries, or the loads in list order, their count and the source's load.
+-- What the list of loads answers and leaves in the column (RULES 6.13): the loads in list order, their count and what the source drives,
+-- or the first refusal in the order of RULES 5.12, the last of which is 9 with the number of entries.
 use Prim.Native.Nat.{ℕ}
 use mathlib.Core.Path.{_≡_}
 use mathlib.Core.List.{List}

@@ -111,7 +111,7 @@ fn list_loads(
     load::load_below(parent, &own, &shut, &gap, &reach, 0)
 }
 
-// Lists what each entry drives, in list order, and the source's load: the net's refusals, 7, 10, 9. An overloaded placement is listed too.
+// Lists what each entry drives, in list order, and the source (RULES 6.13): the net's refusals, 7, 10, 9. An overloaded placement is listed too.
 pub fn list_drives(
     limits: Limits,
     parent: &[u16],

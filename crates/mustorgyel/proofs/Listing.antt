@@ -19,11 +19,11 @@ use Rattle.rules.specs.Sum.{sumFrom}
 use Rattle.rules.specs.Load.{drivers, sourceDrives}
 use Rattle.rules.proofs.Tests.{then-met}
 use Rattle.rules.proofs.Order.{entries-counted}
-use Rattle.checker.specs.declared.Listed.{Listed}
-use Rattle.checker.specs.declared.Listed.the-variants.{Driven}
-use Rattle.checker.specs.Listing.{listJudged, ListedIs}
-use Rattle.checker.proofs.CheckedIsLegal.{legal-judged}
-use Rattle.checker.proofs.Walks.{entries-length}
+use Rattle.listing.specs.declared.Listed.{Listed}
+use Rattle.listing.specs.declared.Listed.the-variants.{Driven}
+use Rattle.listing.specs.Listing.{listJudged, ListedIs}
+use Rattle.rules.proofs.LegalJudged.{legal-judged}
+use Rattle.standing.proofs.Walk.{entries-length}
 use Rattle.mustorgyel.specs.Printed.{Given}
 
 placed : {n : Net} {ws os : List ℕ} → Given n ws os → placedFrom n start 0 (entries ws os) ≡ Sound

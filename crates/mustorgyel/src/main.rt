@@ -1,7 +1,7 @@
 // The program: a net file on standard input, its answer on standard output. Document 01, "The printed answer".
-use checker::Listed;
 use libc::STDIN_FILENO;
 use libc::STDOUT_FILENO;
+use listing::Listed;
 use net_file::NetRead;
 use rules::Limits;
 use rules::Refusal;
@@ -50,7 +50,7 @@ fn tell(
     ensures { λ r. ⌜ Shows (told (netAt limits (parent .entry) (wire .entry) (kind .entry) (pin .entry) (polarity .entry)) (now (wires .entry)) (now (offsets .entry))) (now (out .exit)) r ⌝ }
 {
     let mut loads = [0u64; ENTRIES];
-    let listed = checker::list_drives(
+    let listed = listing::list_drives(
         limits,
         parent,
         wire,

@@ -4,9 +4,9 @@ use mathlib.Core.Path.{_≡_}
 use mathlib.Core.List.{List}
 use Rattle.rules.specs.Net.{Net}
 use Rattle.checker.specs.declared.Verdict.{Verdict}
-use Rattle.checker.specs.declared.Listed.{Listed}
+use Rattle.listing.specs.declared.Listed.{Listed}
 use Rattle.checker.specs.Verdict.{verdictNumber, verdictCount, verdictSource, verdict}
-use Rattle.checker.specs.Listing.{listedNumber, listedCount, listedSource, ListedIs}
+use Rattle.listing.specs.Listing.{listedNumber, listedCount, listedSource, ListedIs}
 
 pub record Checks (n : Net) (vs os : List ℕ) (before after : ℕ) (number place : ℕ) : Type 0 where
   pub said : Verdict

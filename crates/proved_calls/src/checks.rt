@@ -1,12 +1,12 @@
 // The checker and the list of loads.
-use checker::Listed;
 use checker::Verdict;
+use listing::Listed;
 use rules::Limits;
 ghost use mathlib.Core.Path.{_≡_};
 ghost use Rattle.rules.specs.Net.{netAt};
 ghost use Rattle.proved_calls.specs.Answers.{limitsOf};
 ghost use Rattle.checker.specs.Verdict.{verdictNumber, verdictCount, verdictSource};
-ghost use Rattle.checker.specs.Listing.{listedNumber, listedCount, listedSource};
+ghost use Rattle.listing.specs.Listing.{listedNumber, listedCount, listedSource};
 ghost use Rattle.proved_calls.specs.Checks.{Checks, Lists};
 
 fn verdict_number(said: Verdict) -> u32
@@ -122,7 +122,7 @@ pub extern "C" fn proved_list_drives(
         pin: cb,
         repeater: repeater,
     };
-    let said = checker::list_drives(
+    let said = listing::list_drives(
         limits,
         parent,
         wire,

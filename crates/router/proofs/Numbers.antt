@@ -4,15 +4,13 @@ use Prim.Native.Nat.{ℕ}
 use mathlib.Core.Path.{_≡_, refl, sym, _∙_}
 use mathlib.Core.Logic.{_↔_}
 use mathlib.Core.List.{List, map}
-use lib.ListN.{length, length-map}
+use lib.ListN.{length-map}
 use Rattle.rules.specs.declared.Entry.{Entry}
 use Rattle.rules.specs.declared.Refusal.{Refusal}
 use Rattle.rules.specs.declared.Judged.the-variants.{Sound}
-use Rattle.rules.specs.Figures.{mostEntries}
 use Rattle.rules.specs.Refusal.{numberOf, judgedNumber}
 use Rattle.rules.specs.Net.{Net}
 use Rattle.rules.specs.Judge.{judged}
-use Rattle.rules.specs.Load.{entries}
 use Rattle.rules.specs.Checked.{checked}
 use Rattle.rules.proofs.Judging.{sound-refused, exactly-where}
 use Rattle.rules.proofs.Numbers.{PlacementGives, PlacementFits}

@@ -15,7 +15,6 @@ use Rattle.rules.specs.declared.Refusal.the-variants.{NoRoom}
 use Rattle.rules.specs.declared.Judged.{Judged}
 use Rattle.rules.specs.declared.Judged.the-variants.{Sound, Refused as Unsound}
 use Rattle.rules.specs.Figures.{mostPlaces, mostEntries}
-use Rattle.rules.specs.Choose.{pick}
 use Rattle.rules.specs.Net.{Net, places}
 use Rattle.rules.proofs.SoundSays.{sound-says}
 use Rattle.field.specs.Listed.{listed}
@@ -25,7 +24,7 @@ use Rattle.net_file.specs.declared.NetRead.{NetRead}
 use Rattle.net_file.specs.declared.NetRead.the-variants.{Read as NetWasRead, Refused as NetRefused}
 use Rattle.net_file.specs.NetFile as net_file
 use Rattle.net_file.specs.NetFile.{netOf, room, firstPlaces, ReadNet}
-use Rattle.net_file.proofs.ReadWrite.{Same, same-bytes, answered-read, read-net, front-is}
+use Rattle.net_file.proofs.ReadWrite.{same-bytes, answered-read, read-net, front-is}
 use Rattle.placement_file.specs.declared.PlacementRead.{PlacementRead}
 use Rattle.placement_file.specs.declared.PlacementRead.the-variants.{Read, Refused}
 use Rattle.placement_file.specs.File.{Outcome, placement, refused, outcome, owed, entryAt, fileJudged, placementOf, wire, offset, answer, ReadAs}

@@ -1,4 +1,4 @@
--- Document 01: "the checker is exported to it over the two files' bytes, answering the number alone: the net file's refusal first, then the placement file's, then the checker's."
+-- What the call from C answers (RULES 6.21): a number, by the bytes of the two files, in the order of RULES 5.14.
 use Prim.Native.Nat.{ℕ}
 use mathlib.Core.List.{List, map}
 use Rattle.rules.specs.Refusal.{numberOf, judgedNumber}

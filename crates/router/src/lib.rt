@@ -110,7 +110,7 @@ fn check_columns(
     )
 }
 
-// The number alone: the net file's refusal first, then the placement file's, then the checker's.
+// 0 for a net and a legal placement of it, else the first refusal's number: the net file's, the placement file's, the placement's (RULES 6.21).
 #[no_mangle]
 pub extern "C" fn mustorgyel_check(net: &[u8], placement: &[u8]) -> u32
     ensures { λ r. ⌜ r ≡ routed (now (net .entry)) (now (placement .entry)) ⌝ }

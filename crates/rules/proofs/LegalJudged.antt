@@ -2,23 +2,20 @@
 use Prim.Native.Nat.{ℕ, zero, suc, _+_, _-_, _≤_, _<_}
 use mathlib.Core.Path.{_≡_, refl, sym, _∙_}
 use mathlib.Core.Bool.{Bool, true, false}
-use mathlib.Core.Logic.{_↔_}
 use mathlib.Core.List.{List, [], _∷_}
 use native.Mathlib.Omega.{arith}
 use native.Mathlib.Decide.{ℕ-discrete}
 use lib.Dec.{eqb, ltb, leb}
 use borrow.Author.Tests.{eqb-true, ltb-true, leb-true, eq-eqb, ne-eqb, lt-ltb, le-ltb, le-leb}
 use Rattle.rules.specs.declared.Entry.{Entry}
-use Rattle.rules.specs.declared.Judged.{Judged}
 use Rattle.rules.specs.declared.Judged.the-variants.{Sound}
-use Rattle.rules.specs.declared.Refusal.{Refusal}
-use Rattle.rules.specs.declared.Refusal.the-variants.{WrongColumns, Misplaced, Overloaded, WrongParity}
+use Rattle.rules.specs.declared.Refusal.the-variants.{Misplaced, Overloaded, WrongParity}
 use Rattle.rules.specs.Choose.{pick, both}
 use Rattle.rules.specs.Net.{Net, places, wire, kind}
-use Rattle.rules.specs.Load.{entries, offsetsOn, drivers}
+use Rattle.rules.specs.Load.{offsetsOn, drivers}
 use Rattle.rules.specs.Legal.{Each, After, higher, further, Stands, InOrder, start, sense, OneSense, Legal}
-use Rattle.rules.specs.Judge.{unless, thenJudge, judged}
-use Rattle.rules.specs.Checked.{placementFits, onItsWire, notLower, placedFrom, withinLimit, firstSink, hasSense, oneSense, placementJudged, columnsJudged, checked}
+use Rattle.rules.specs.Judge.{unless, thenJudge}
+use Rattle.rules.specs.Checked.{onItsWire, notLower, placedFrom, withinLimit, firstSink, hasSense, oneSense, placementJudged}
 use Rattle.rules.proofs.Tests.{both-met, both-true, unless-met, then-met}
 use Rattle.rules.proofs.Each.{each-met, each-sound}
 use Rattle.rules.proofs.Judging.{unless-true, then-both, Only, only-sound, unless-only, then-only, each-only, Tests}

@@ -1,4 +1,4 @@
--- The inverters from the source to each node, counted by twos.
+-- The inverters from the source to each node (RULES 2.13), counted by twos.
 use Prim.Native.Nat.{ℕ, _%_, _≤_, _<_}
 use mathlib.Core.Path.{_≡_}
 use mathlib.Core.List.{List}

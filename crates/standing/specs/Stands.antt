@@ -1,4 +1,4 @@
--- The first part of what the checker and the list of loads answer: 7 for the placement, then 10.
+-- The first part of what is judged of a placement on a net: 7 for its columns, then 10 (RULES 5.6).
 use Prim.Native.Nat.{ℕ}
 use mathlib.Core.Path.{_≡_}
 use mathlib.Core.List.{List}

@@ -2,7 +2,7 @@
 use mathlib.Core.Path.{sym, _∙_}
 use Rattle.rules.specs.Net.{netAt}
 use Rattle.rules.proofs.SoundSays.{sound-says}
-use Rattle.checker.proofs.Weighing.{has-wires}
+use Rattle.standing.proofs.Begun.{has-wires}
 use Rattle.finish.proofs.Judging.{half-own, half-type, half-rest}
 use borrow.Author.Needs.{needs}
 use Rattle.finish.proofs.judge_half.Statement.{statement}

@@ -9,7 +9,7 @@ use denote.Ref.{now}
 use borrow.Author.Needs.{needs}
 use Rattle.rules.specs.Net.{Net, netAt}
 use Rattle.rules.specs.Load.{entries, offsetsOn, driven, sourceDrives}
-use Rattle.checker.specs.declared.Listed.the-variants.{Driven}
+use Rattle.listing.specs.declared.Listed.the-variants.{Driven}
 use Rattle.answer.specs.Text.{answerText}
 use Rattle.answer.proofs.Laying.{laid-as}
 use Rattle.mustorgyel.proofs.Showing.{shown, front-of}

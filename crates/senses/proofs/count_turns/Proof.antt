@@ -1,6 +1,5 @@
 -- `senses::count_turns` meets its contract. The invariant: the table is right for a placement of the first k entries.
 use Prim.Native.Nat.{_≤_, _<_, _-_}
-use mathlib.Core.Path.{refl}
 use native.Mathlib.Omega.{arith}
 use lib.ListN.{length, getD}
 use Rattle.rules.specs.Figures.{mostPlaces}
