@@ -1,14 +1,15 @@
-"""Net files in Python: bytes to a net and back, and the readable twin (hex with a comment for each field).
+"""Net and placement files in Python: what their bytes say, and the readable twin (hex with a comment for each field).
 
-A reader for pictures and examples: it stops at the first thing that is no net file, and says where.
-Which of document 01's refusals that is, ./mustorgyel says."""
+A reader for pictures and examples: it stops at the first thing that does not belong, and says where.
+Which refusal that is (docs/RULES.md, section 4), ./mustorgyel says of a net file."""
 
-LIMITS, BRANCH, SINK, END = 0x01, 0x02, 0x03, 0x7F
-BODY = {LIMITS: (4, 4, 1), BRANCH: (2, 4), SINK: (2, 4, 4, 1), END: ()}
+LIMITS, BRANCH, SINK, COUNT, ENTRY, END = 0x01, 0x02, 0x03, 0x11, 0x12, 0x7F
+# RULES 3.4: the bytes of each number of a field's value
+BODY = {LIMITS: (4, 4, 1), BRANCH: (2, 4), SINK: (2, 4, 4, 1), COUNT: (2,), ENTRY: (2, 4), END: ()}
 
 
-class NotANet(Exception):
-    """The bytes are no net file; the message says where."""
+class WrongFile(Exception):
+    """The bytes are not the file that they should be; the message says where."""
 
 
 class Node:
@@ -30,7 +31,7 @@ class Net:
 
     def add(self, node):
         if node.parent >= len(self.nodes) or self.nodes[node.parent].is_sink:
-            raise NotANet(f"node {len(self.nodes)} hangs under {node.parent}, which is no branch point before it")
+            raise WrongFile(f"node {len(self.nodes)} hangs under {node.parent}, which is no branch point before it")
         self.nodes[node.parent].children.append(len(self.nodes))
         self.nodes.append(node)
         return len(self.nodes) - 1
@@ -42,31 +43,41 @@ def fields(data):
     while tag != END:
         tag = data[at] if at < len(data) else None
         if tag not in BODY:
-            raise NotANet(f"no field at byte {at}")
+            raise WrongFile(f"no field at byte {at}")
         sizes = BODY[tag]
         end = at + 3 + sum(sizes)
         if end > len(data) or data[at + 1] * 256 + data[at + 2] != sum(sizes):
-            raise NotANet(f"the field at byte {at} has a wrong length or is cut")
+            raise WrongFile(f"the field at byte {at} has a wrong length or is cut")
         at, values = at + 3, []
         for size in sizes:
             values.append(int.from_bytes(data[at:at + size], "big"))
             at += size
         yield tag, values
     if at != len(data):
-        raise NotANet(f"bytes after the end, from byte {at}")
+        raise WrongFile(f"bytes after the end, from byte {at}")
 
 
 def read(data):
-    """The net that a file holds."""
-    net = None
-    for tag, values in fields(data):
-        if (net is None) != (tag == LIMITS):
-            raise NotANet("the limits come first, and once")
-        if tag == LIMITS:
-            net = Net(*values)
-        elif tag != END:
-            net.add(Node(*values))
+    """The net that a net file holds."""
+    found = list(fields(data))
+    tags = [tag for tag, _ in found]
+    if tags[0] != LIMITS or not {BRANCH, SINK}.issuperset(tags[1:-1]):
+        raise WrongFile("a net file is limits, then branch points and sinks, then the end")
+    net = Net(*found[0][1])
+    for _, values in found[1:-1]:
+        net.add(Node(*values))
     return net
+
+
+def read_placement(data):
+    """The entries that a placement file holds: pairs of wire number and offset."""
+    found = list(fields(data))
+    tags = [tag for tag, _ in found]
+    if tags[0] != COUNT or not {ENTRY}.issuperset(tags[1:-1]):
+        raise WrongFile("a placement file is a count, then entries, then the end")
+    if found[0][1] != [len(found) - 2]:
+        raise WrongFile(f"the count is {found[0][1][0]}, and {len(found) - 2} entries follow")
+    return [tuple(values) for _, values in found[1:-1]]
 
 
 def field(tag, *values):
@@ -78,6 +89,12 @@ def field(tag, *values):
 def of_twin(text):
     """The bytes of a readable twin: hex, and comments from # to the end of the line."""
     return bytes.fromhex(" ".join(line.split("#")[0] for line in text.splitlines()))
+
+
+def rows(title, lines):
+    """Lines of a title, then the bytes of each field with what they say."""
+    said = [f"{data.hex(' ').upper():<42}# {what}" for data, what in lines]
+    return "\n".join([f"# {line}" for line in title] + said) + "\n"
 
 
 def twin(net, title):
@@ -92,6 +109,11 @@ def twin(net, title):
             lines.append((field(SINK, node.parent, node.wire, node.pin, node.polarity), f"{what}, sink, pin {node.pin}{sign}"))
         else:
             lines.append((field(BRANCH, node.parent, node.wire), f"{what}, branch point"))
-    lines.append((field(END), "end"))
-    rows = [f"{data.hex(' ').upper():<42}# {said}" for data, said in lines]
-    return "\n".join([f"# {line}" for line in title] + rows) + "\n"
+    return rows(title, lines + [(field(END), "end")])
+
+
+def placement_twin(entries, title):
+    """The readable twin of a placement."""
+    lines = [(field(COUNT, len(entries)), f"count: {len(entries)}")]
+    lines += [(field(ENTRY, wire, offset), f"entry {k}: wire {wire}, offset {offset}") for k, (wire, offset) in enumerate(entries)]
+    return rows(title, lines + [(field(END), "end")])
