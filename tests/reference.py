@@ -205,7 +205,7 @@ def write_placement(placement, room=None):
 # ---------------------------------------------------------------- columns judged
 
 def judge_net(net):
-    """7, then limits 3, node 0's places 3, nodes from 1 up with 3 before 4, then 5."""
+    """The tests of RULES 5.4, in their order."""
     lengths = {len(column) for column in net[1:]}
     if len(lengths) != 1 or not 1 <= max(lengths) <= MOST_NODES + 1:
         raise Refused(7, 0)

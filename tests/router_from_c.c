@@ -6,7 +6,7 @@
 #include <stdlib.h>
 #include <string.h>
 
-/* Document 01's net: C_U 10, C_b 2, buffers; one sink at a wire of 14, pin 4. And one byte more. */
+/* examples/wire-14.net: C_U 10, C_b 2, buffers; one sink at a wire of 14, pin 4. And one byte more. */
 static const uint8_t net[30] = {
     0x01, 0x00, 0x09, 0, 0, 0, 10, 0, 0, 0, 2, 0,
     0x03, 0x00, 0x0B, 0, 0, 0, 0, 0, 14, 0, 0, 0, 4, 0,
@@ -81,25 +81,25 @@ int main(void)
     uint8_t one[17];
     for (uint8_t offset = 0; offset <= 14; offset++) {
         placement_of(one, 1, offset);
-        expect("one entry serves at 6 only", offset == 6 ? 0 : 11,
+        expect("one entry serves at 6 only", offset == 6 ? MUSTORGYEL_LEGAL : MUSTORGYEL_OVERLOADED,
                mustorgyel_check(net, 29, one, 17));
     }
     placement_of(one, 1, 15);
-    expect("an entry past its wire", 10, mustorgyel_check(net, 29, one, 17));
+    expect("an entry past its wire", MUSTORGYEL_MISPLACED, mustorgyel_check(net, 29, one, 17));
     placement_of(one, 2, 0);
-    expect("an entry on no wire", 10, mustorgyel_check(net, 29, one, 17));
+    expect("an entry on no wire", MUSTORGYEL_MISPLACED, mustorgyel_check(net, 29, one, 17));
     placement_of(one, 0, 0);
-    expect("wire 0 in a file", 3, mustorgyel_check(net, 29, one, 17));
-    expect("no entries", 11, mustorgyel_check(net, 29, none, 8));
-    expect("the net cut", 1, mustorgyel_check(net, 28, none, 8));
-    expect("the net with a byte more", 6, mustorgyel_check(net, 30, none, 8));
-    expect("the placement cut", 1, mustorgyel_check(net, 29, none, 7));
-    expect("the two exchanged", 2, mustorgyel_check(none, 8, net, 29));
-    expect("the net's refusal first", 1, mustorgyel_check(net, 28, none, 7));
-    expect("no net file", 1, mustorgyel_check(NULL, 0, none, 8));
-    expect("no placement file", 1, mustorgyel_check(net, 29, NULL, 0));
-    expect("neither", 1, mustorgyel_check(NULL, 0, NULL, 0));
-    expect("the deepest net on a stack of 256 KiB", 0, on_small_stack());
-    printf("the router's call from C: as document 01 says\n");
+    expect("wire 0 in a file", MUSTORGYEL_OUT_OF_RANGE, mustorgyel_check(net, 29, one, 17));
+    expect("no entries", MUSTORGYEL_OVERLOADED, mustorgyel_check(net, 29, none, 8));
+    expect("the net cut", MUSTORGYEL_FILE_ENDS, mustorgyel_check(net, 28, none, 8));
+    expect("the net with a byte more", MUSTORGYEL_BYTES_AFTER_END, mustorgyel_check(net, 30, none, 8));
+    expect("the placement cut", MUSTORGYEL_FILE_ENDS, mustorgyel_check(net, 29, none, 7));
+    expect("the two exchanged", MUSTORGYEL_NOT_DUE, mustorgyel_check(none, 8, net, 29));
+    expect("the net's refusal first", MUSTORGYEL_FILE_ENDS, mustorgyel_check(net, 28, none, 7));
+    expect("no net file", MUSTORGYEL_FILE_ENDS, mustorgyel_check(NULL, 0, none, 8));
+    expect("no placement file", MUSTORGYEL_FILE_ENDS, mustorgyel_check(net, 29, NULL, 0));
+    expect("neither", MUSTORGYEL_FILE_ENDS, mustorgyel_check(NULL, 0, NULL, 0));
+    expect("the deepest net on a stack of 256 KiB", MUSTORGYEL_LEGAL, on_small_stack());
+    printf("the router's call from C: as docs/RULES.md says\n");
     return 0;
 }
