@@ -1,4 +1,4 @@
-/* The judge of a net's columns: 7, 3, 4, 5 in document 01's order, in one pass. */
+/* The judge of a net's columns in one pass: 7, 3, 4, 5 in the order of RULES 5.4. */
 #include "baseline.h"
 
 static bool limits_good(const struct limits *limits)

@@ -4,8 +4,8 @@
 
 #include "baseline.h"
 
-/* legal: inverters in these numbers can be set on the net's wires so that document 01 calls
-   the placement legal. found is false where the procedure ends at infinity. */
+/* legal: inverters in these numbers can be set on the net's wires so that
+   the placement is legal (RULES 2.16). found is false where the procedure ends at infinity. */
 struct fig4 { bool found, legal; uint64_t count; };
 
 /* Step 4 of the figure changes polarity where the number of inverters on an edge is even. That

@@ -1,6 +1,6 @@
 """The documents against the repository: links lead somewhere, the paragraphs of docs/RULES.md are numbered without gaps, every
 paragraph that is cited anywhere exists, docs/DEFINITIONS.md maps them all and names every file of definitions in the right table, and
-the header's names have the numbers of the rules."""
+the header's names have the numbers of the rules. And the map of the crates agrees with crates.txt."""
 import pathlib
 import re
 import sys
@@ -97,6 +97,25 @@ def unmapped():
             yield f"docs/DEFINITIONS.md: {name} is not mapped"
 
 
+# ---------------------------------------------------------------- the map of the crates
+
+def wrong_map():
+    """Every crate stands on the map once, above all that it stands on."""
+    drawn = re.search(r"^```map\n(.*?)^```", (ROOT / "docs/ARCHITECTURE.md").read_text(), re.M | re.S).group(1)
+    rows = [row[row.find("│"):] for row in drawn.splitlines()]
+    listed = re.findall(r"^(\w+):(.*)$", (ROOT / "crates.txt").read_text(), re.M)
+    names = {name for name, _ in listed}
+    at = [(name, number) for number, row in enumerate(rows) for name in re.findall(r"\w+", row) if name in names]
+    line = dict(at)
+    for name in sorted(names):
+        if [other for other, _ in at].count(name) != 1:
+            yield f"docs/ARCHITECTURE.md: {name} is not on the map once"
+    for name, below in listed:
+        for other in below.split():
+            if name in line and other in line and not line[name] < line[other]:
+                yield f"docs/ARCHITECTURE.md: {name} is not above {other}"
+
+
 # ---------------------------------------------------------------- numbers
 
 def wrong_numbers():
@@ -168,7 +187,7 @@ def misplaced_files():
 
 
 def main():
-    wrong = [*broken_links(), *gaps(), *unknown_citations(), *unmapped(), *wrong_numbers(), *misplaced_files()]
+    wrong = [*broken_links(), *gaps(), *unknown_citations(), *unmapped(), *wrong_numbers(), *wrong_map(), *misplaced_files()]
     if wrong:
         sys.exit("\n".join(wrong))
     print(f"documents: {len(PAGES)} pages, {len(paragraphs())} paragraphs of the rules, {len(believed())} files of definitions to believe")

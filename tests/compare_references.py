@@ -1,4 +1,4 @@
-"""reference.py against reference.c: every row of document 01's table, half-buffered nets whose
+"""reference.py against reference.c: every net of RULES, section 9, half-buffered nets whose
 answer is known, the stored damaged files, and random cases from a fixed seed.
 
     python3 compare_references.py PROGRAM [HOW_MANY]
@@ -17,7 +17,7 @@ from reference import Limits, Net, Placement
 SEED = 416
 
 
-# ---------------------------------------------------------------- the table of document 01
+# ---------------------------------------------------------------- RULES, section 9
 
 def net(nodes, limit=10, pin=2, kind=0):
     columns = [list(column) for column in zip((0, 0, 0, 0, 0), *nodes)]

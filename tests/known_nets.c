@@ -1,4 +1,4 @@
-/* The solver on nets whose least count is known beforehand: document 01's table, the net that one
+/* The solver on nets whose least count is known beforehand: RULES 9.1 to 9.13, the net that one
    label a polarity gets wrong, rooms short and exact, eight children of every mix, and the largest
    nets, up to a least count past 10,000,000,000. Something under test comes in as in compare_calls.c.
 

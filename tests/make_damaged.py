@@ -142,7 +142,7 @@ def any_file(fields, seed, number):
 # ---------------------------------------------------------------- net files
 
 def sound_nets():
-    yield "the example of document 01", net_of(sink(0, 14, 4), head=limits(10, 2, 0))
+    yield "the example of the README", net_of(sink(0, 14, 4), head=limits(10, 2, 0))
     yield "the example cut to 28 bytes", net_of(sink(0, 14, 4), head=limits(10, 2, 0))[:28]
     yield "the example and a byte", net_of(sink(0, 14, 4), head=limits(10, 2, 0)) + b"\0"
     yield "eight sinks", net_of(*[sink(0)] * 8)

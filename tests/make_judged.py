@@ -137,7 +137,7 @@ def parent_cases():
 
 
 def two_faults():
-    """Two faults at once: document 01's order says which is named."""
+    """Two faults at once: RULES 5.4 says which is named."""
     bad = Limits(0, 0, 0)
     yield "7 and limits", cut(small(), "pin", -1)._replace(limits=bad)
     yield "limits and node 0", with_values(small(), ("wire", 0, 1), limits=bad)

@@ -1,4 +1,4 @@
-/* See reference.h. Written from document 01; plain before fast. */
+/* See reference.h. Written from the rules; plain before fast. */
 #include "reference.h"
 
 #include <assert.h>

@@ -1,4 +1,4 @@
-/* The rules of document 01 in plain C: a second opinion beside reference.py.
+/* The rules (docs/RULES.md) in plain C: a second opinion beside reference.py.
    It shares nothing with the crates, nor with the C programs in bench/. */
 #ifndef REFERENCE_H
 #define REFERENCE_H

@@ -1,8 +1,8 @@
-"""The rules of document 01, once more, in plain Python: the tests' own truth.
+"""The rules (docs/RULES.md) once more, in plain Python: the tests' own truth.
 
 Nothing here is fast and nothing is shared with the crates or with reference.c.
 A function answers its result or raises Refused(number, place).
-Places are bytes for files, nodes or entries for columns, as the document's table says.
+Places are those of RULES 4.3: bytes for files, nodes or entries for columns.
 """
 from collections import namedtuple
 from itertools import combinations_with_replacement, product
