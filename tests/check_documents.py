@@ -186,8 +186,19 @@ def misplaced_files():
         yield f"docs/DEFINITIONS.md: {crate}'s {file} is not among the inner files"
 
 
+def unknown_names():
+    """Names of definitions, laws and functions that docs/DEFINITIONS.md gives and that stand nowhere in the crates."""
+    files = [file for kind in ("rt", "antt") for file in sorted(ROOT.glob(f"crates/**/*.{kind}"))]
+    known = {word for file in files for word in re.findall(r"[\w-]+", file.read_text())}
+    quoted = [name for name in re.findall(r"`([^`]+)`", DEFINITIONS) if "/" not in name]
+    names = {part for name in quoted for part in re.findall(r"[\w-]{2,}", name)}
+    crates = {file.name for file in ROOT.glob("crates/*")}
+    for name in sorted(names - known - crates):
+        yield f"docs/DEFINITIONS.md: {name} stands nowhere in the crates"
+
+
 def main():
-    wrong = [*broken_links(), *gaps(), *unknown_citations(), *unmapped(), *wrong_numbers(), *wrong_map(), *misplaced_files()]
+    wrong = [*broken_links(), *gaps(), *unknown_citations(), *unmapped(), *wrong_numbers(), *wrong_map(), *unknown_names(), *misplaced_files()]
     if wrong:
         sys.exit("\n".join(wrong))
     print(f"documents: {len(PAGES)} pages, {len(paragraphs())} paragraphs of the rules, {len(believed())} files of definitions to believe")
