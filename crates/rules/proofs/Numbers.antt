@@ -9,19 +9,21 @@ use lib.ListN.{length}
 use borrow.Author.Tests.{eqb-true, leb-true, eq-eqb, le-leb}
 use Rattle.rules.specs.declared.Entry.{Entry}
 use Rattle.rules.specs.declared.Refusal.{Refusal}
-use Rattle.rules.specs.declared.Refusal.the-variants.{OutOfRange, WrongParent, Childless, WrongColumns}
+use Rattle.rules.specs.declared.Refusal.the-variants.{WrongColumns}
 use Rattle.rules.specs.declared.Judged.{Judged}
 use Rattle.rules.specs.declared.Judged.the-variants.{Sound, Refused}
 use Rattle.rules.specs.Figures.{mostEntries}
 use Rattle.rules.specs.Choose.{pick}
-use Rattle.rules.specs.Refusal.{numberOf, judgedNumber}
-use Rattle.rules.specs.Net.{Net, places, parent, kind, node}
+use Rattle.rules.specs.Refusal.{numberOf, placeOf, judgedNumber, judgedPlace}
+use Rattle.rules.specs.Net.{Net}
 use Rattle.rules.specs.Load.{offsetsOn, drivers}
 use Rattle.rules.specs.Legal.{Each, InOrder, start, OneSense, Legal}
-use Rattle.rules.specs.Judge.{unless, thenJudge, columnsFit, limitsInRange, sourceClear, nodeInRange, children, parentFits, nodeJudged, nodesJudged, hasChild, childed, judged}
+use Rattle.rules.specs.Judge.{unless, thenJudge, judged}
 use Rattle.rules.specs.Checked.{placementFits, placedFrom, withinLimit, oneSense, placementJudged}
 use Rattle.rules.proofs.Tests.{both-met, both-true, unless-met}
-use Rattle.rules.proofs.Judging.{unless-true, Only, unless-only, then-only, each-only, Tests, Tested, held, failed, tested, stops, then-next, then-stops, exactly-where}
+use Rattle.rules.proofs.Judging.{unless-true, unless-only, sound-refused, Tests, Tested, held, failed, tested, stops, then-next, then-stops, exactly-where}
+use Rattle.rules.proofs.JudgedNumbers.{Row, row-is}
+use Rattle.rules.proofs.JudgedNumbers as row
 use Rattle.rules.proofs.LegalJudged.{order-tested, loads-tested, senses-tested}
 
 -- every driver's load is at most C_U
@@ -116,19 +118,14 @@ pub data NetNumber (k : ℕ) : Type 0 where
   childless : k ≡ 5 → NetNumber k
   wrong-columns : k ≡ 7 → NetNumber k
 
-pub net-only : (n : Net) → Only NetNumber (judged n)
-unfolding judged
-net-only n =
-    then-only (unless (columnsFit n) WrongColumns) _ (unless-only (columnsFit n) WrongColumns (wrong-columns refl))
-    (then-only (unless (limitsInRange (n .limits)) (OutOfRange 0)) _ (unless-only (limitsInRange (n .limits)) (OutOfRange 0) (out-of-range refl))
-    (then-only (unless (sourceClear n) (OutOfRange 0)) _ (unless-only (sourceClear n) (OutOfRange 0) (out-of-range refl))
-    (then-only (nodesJudged n) (childed n) (each-only (λ i. nodeJudged n i i) (places n - 1) 1 admits) (each-only (λ i. hasChild i (kind n i) (children n (places n - 1) i)) (places n) 0 (λ i. unless-only (pick (eqb (kind n i) 0) (ltb 0 (children n (places n - 1) i)) true) (Childless i) (childless refl))))))
-  where
-    admits : (i : ℕ) → Only NetNumber (nodeJudged n i i)
-    admits i =
-        let fits : Bool = parentFits i (parent n i) (kind n (parent n i)) (children n (i - 1) (parent n i)) in
-        then-only (unless (nodeInRange (n .limits) (node n i)) (OutOfRange i)) (unless fits (WrongParent i))
-        (unless-only (nodeInRange (n .limits) (node n i)) (OutOfRange i) (out-of-range refl)) (unless-only fits (WrongParent i) (wrong-parent refl))
-
 pub net-number : {n : Net} {k : ℕ} → NetRefuses n k → NetNumber k
-net-number {n} r = rw (r .number) (net-only n .number (r .refusal) (r .refused))
+net-number {n} {k} r = by (row-is n k (placeOf (r .refusal)) .1 (ap judgedNumber (r .refused) ∙ sym (r .number), ap judgedPlace (r .refused)))
+  where
+    by : {p : ℕ} → Row n k p → NetNumber k
+    by (row.sound e q s) = sound-refused e (r .refused)
+    by (row.columns e q s) = wrong-columns q
+    by (row.limits a e q s) = out-of-range q
+    by (row.source a b e q s) = out-of-range q
+    by (row.range b h e q) = out-of-range q
+    by (row.child b h e f q) = wrong-parent q
+    by (row.childless b all h q) = childless q
