@@ -61,11 +61,11 @@ leastLine n = said least n ++ end
 unfoldable pub entryLine : ℕ → ℕ → ℕ → List ℕ
 entryLine w o l = ((said wire w ++ said offset o) ++ said drives l) ++ end
 
--- `source drives L`: "and the source's load"
+-- `source drives L`
 unfoldable pub sourceLine : ℕ → List ℕ
 sourceLine l = said source l ++ end
 
--- "A refusal prints one line, `refused N place P`."
+-- `refused N place P` (RULES 7.5)
 unfoldable pub refusedLine : Refusal → List ℕ
 refusedLine r = (said refused (numberOf r) ++ said place (placeOf r)) ++ end
 

@@ -38,7 +38,7 @@ pub data Answer : Type 0 where
   refused : Answer
   -- "1, any offset" of wire 1 from the first to the last, and none elsewhere
   anyOffset : (first last : ℕ) → Answer
-  -- the least count, "two of them on one wire"
+  -- the least count, and that some least placement has two entries on one wire
   twoOnOne : (k : ℕ) → Answer
   -- what becomes of a placement where the nodes are eased to these
   carry : (eased : List Node) (p becomes : List Entry) → Answer
@@ -69,7 +69,7 @@ pub record Row : Type 0 where
   pub nodes : List Node
   pub answer : Answer
 
--- "C_U 10, C_b 2 unless said"
+-- the limits of RULES 9 where a row has none of its own
 abbrev pub buffers : List Node → Answer → Row
 buffers ds a = record { limits = limits 0 10 2; nodes = ds; answer = a }
 

@@ -33,7 +33,7 @@ pub hanging-end : (n : Net) (i v : ℕ) → places n ≤ i → hanging n (places
 unfolding hanging
 hanging-end n i v h = let e : places n - i ≡ 0 = omega arith in rw e
 
--- "Sinks have no children."
+-- nothing hangs under a sink (RULES 1.6)
 pub sink-bare : {n : Net} → SoundNet n → (l s : ℕ) → l < places n → kind n s ≡ 1 → hanging n l s ≡ none
 unfolding hanging
 sink-bare s zero v h k = refl

@@ -26,7 +26,7 @@ pub record Eases (n m : Net) : Type 0 where
   pub wires : (i : ℕ) → wire m i ≤ wire n i
   pub pins : (i : ℕ) → columns.pin m i ≤ columns.pin n i
 
--- "every offset [..] becomes the smaller of itself and the new wire"
+-- RULES 6.18: an offset past the new wire becomes that wire's size
 abbrev pub cut : Net → Entry → Entry
 cut m e = record { wire = e .wire; offset = min (e .offset) (wire m (e .wire)) }
 
