@@ -36,9 +36,9 @@ pub data Answer : Type 0 where
   least : (k : ℕ) → Answer
   -- "refusal 8"
   refused : Answer
-  -- "1, any offset" of wire 1 from the first to the last, and none elsewhere
+  -- one entry, on wire 1, at each offset from the first to the last and at no other
   anyOffset : (first last : ℕ) → Answer
-  -- the least count, and that some least placement has two entries on one wire
+  -- the least count, and two entries on one wire in every placement that has it
   twoOnOne : (k : ℕ) → Answer
   -- what becomes of a placement where the nodes are eased to these
   carry : (eased : List Node) (p becomes : List Entry) → Answer
