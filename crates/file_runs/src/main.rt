@@ -48,7 +48,7 @@ fn net_comes_back(
     polarity: &[u8],
 ) -> bool {
     let mut out = [0u8; 16384];
-    let wrote = net_file::write_net(l, parent, wire, kind, pin, polarity, &mut out);
+    let wrote = net_writer::write_net(l, parent, wire, kind, pin, polarity, &mut out);
     let NetWrote::Written(n) = wrote else {
         return false;
     };
@@ -98,7 +98,7 @@ fn run_net(s: &[u8]) {
     let mut kind = [0u8; 1025];
     let mut pin = [0u32; 1025];
     let mut polarity = [0u8; 1025];
-    let got = net_file::read_net(
+    let got = net_reader::read_net(
         s,
         &mut parent,
         &mut wire,

@@ -121,7 +121,7 @@ fn finish_pair(net: &[u8], placement: &[u8]) {
     let mut kind = [0u8; PLACES];
     let mut pin = [0u32; PLACES];
     let mut polarity = [0u8; PLACES];
-    let found = net_file::read_net(
+    let found = net_reader::read_net(
         net,
         &mut parent,
         &mut wire,
@@ -169,7 +169,7 @@ fn net_bytes(s: &[u8]) -> usize
     let mut kind = [0u8; PLACES];
     let mut pin = [0u32; PLACES];
     let mut polarity = [0u8; PLACES];
-    let found = net_file::read_net(
+    let found = net_reader::read_net(
         s,
         &mut parent,
         &mut wire,

@@ -122,7 +122,7 @@ fn respond(s: &[u8], out: &mut [u8]) -> usize
     let mut kind = [0u8; PLACES];
     let mut pin = [0u32; PLACES];
     let mut polarity = [0u8; PLACES];
-    let found = net_file::read_net(
+    let found = net_reader::read_net(
         s,
         &mut parent,
         &mut wire,

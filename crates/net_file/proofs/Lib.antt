@@ -1,10 +1,6 @@
-pub mod Variants
 pub mod Nodes
-pub mod Judging
-pub mod Filling
-pub mod Reading
-pub mod Writing
-pub mod Written
+pub mod FieldsJudged
+pub mod WasRead
 pub mod ReadWrite
 pub mod WriteRead
 pub mod Determined

@@ -14,7 +14,7 @@ use Rattle.rules.specs.declared.Node.{Node}
 use Rattle.rules.specs.declared.Refusal.the-variants.{OutOfRange, BytesAfterEnd, NoRoom}
 use Rattle.rules.specs.declared.Judged.{Judged}
 use Rattle.rules.specs.declared.Judged.the-variants.{Sound}
-use Rattle.rules.specs.Figures.{mostNodes, mostPlaces}
+use Rattle.rules.specs.Figures.{mostPlaces}
 use Rattle.rules.specs.Choose.{pick}
 use Rattle.rules.specs.Net.{Net, places, parent, kind, node}
 use Rattle.rules.specs.Judge.{unless, limitsInRange, columnsFit, sourceClear, nodeJudged, nodesJudged, judged}
@@ -38,8 +38,8 @@ use Rattle.net_file.specs.declared.NetWrote.{NetWrote}
 use Rattle.net_file.specs.declared.NetWrote.the-variants.{Written}
 use Rattle.net_file.specs.NetFile.{frontValue, frontOf, takenValue, takenOf, takenAt, follow, fieldsFrom, nodesOf, columnsOf, source, fieldsJudged, Outcome, read, refused, netWith, fieldsOf, netOf, room, laidOver, answered, filled, ReadNet, firstPlaces, fieldOf, bytesFrom, netBytes, written, leftIn, WroteNet}
 use Rattle.net_file.proofs.Nodes.{node-is, places-are, Heads, heads}
-use Rattle.net_file.proofs.Judging.{columns-judged, few-nodes}
-use Rattle.net_file.proofs.Reading.{WasRead, was-read}
+use Rattle.net_file.proofs.FieldsJudged.{columns-judged}
+use Rattle.net_file.proofs.WasRead.{WasRead, was-read, read-places}
 
 -- ---- one field
 
@@ -157,11 +157,10 @@ same-bytes s n by e =
     let w : WasRead s n = was-read s n e in
     let (f, due, v, r) = front-field (n .limits) (dueAt 1 s 0) (w .front) in
     let front = sym (begins s by 0 f (LimitsField (n .limits)) (found 1 (fieldAt s 0) due .0) v) in
-    let m : places n ≡ suc (length (nodesOf (fieldsOf s))) = ap places (w .is) ∙ places-are (n .limits) (source ∷ nodesOf (fieldsOf s)) in
-    let k : places n - 1 ≡ length (nodesOf (fieldsOf s)) = omega arith in
+    let (m, few) = read-places w in
+    let k : places n - 1 ≡ length (nodesOf (fieldsOf s)) = omega (arith, m) in
     let (nodes, c) = columns-judged n (length s) 1 (fieldsOf s) (w .sound) in
-    let few : length (nodesOf (fieldsOf s)) ≤ mostNodes = few-nodes n (length (nodesOf (fieldsOf s))) nodes in
-    let fit : columnsFit n ≡ true = ap columnsFit (w .is) ∙ columns-fit (n .limits) (source ∷ nodesOf (fieldsOf s)) (omega arith) (omega arith) in
+    let fit : columnsFit n ≡ true = ap columnsFit (w .is) ∙ columns-fit (n .limits) (source ∷ nodesOf (fieldsOf s)) (omega arith) (omega (arith, m, few)) in
     let clear : sourceClear n ≡ true = ap sourceClear (w .is) in
     let all : nodesJudged n ≡ Sound = rw k nodes in
     let back : bytesFrom (node n) (length (nodesOf (fieldsOf s))) 1 ≡ drop 12 s

@@ -34,7 +34,7 @@ use Rattle.net_file.specs.declared.NetRead.the-variants.{Read}
 use Rattle.net_file.specs.declared.NetWrote.the-variants.{Written, Refused as NotWritten}
 use Rattle.net_file.specs.NetFile.{frontOf, takenValue, takenOf, takenAt, follow, fieldsFrom, nodesOf, columnsOf, source, fieldsJudged, read, whenSound, netWith, fieldsOf, netFrom, fromFront, netOf, room, laidOver, ReadNet, firstPlaces, fieldOf, bytesFrom, netBytes, written, leftIn, WroteNet}
 use Rattle.field.specs.Listed.{listed}
-use Rattle.net_file.proofs.Judging.{admitted-anywhere, admitted-fits}
+use Rattle.net_file.proofs.FieldsJudged.{admitted-anywhere, admitted-fits}
 use Rattle.net_file.proofs.ReadWrite.{front-is}
 
 -- ---- one node

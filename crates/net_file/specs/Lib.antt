@@ -1,2 +1,1 @@
 pub mod NetFile
-pub mod Own

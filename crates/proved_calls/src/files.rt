@@ -59,7 +59,7 @@ pub extern "C" fn proved_read_net(
 ) -> u32
     ensures { λ n. ⌜ ReadsNet (now (s .entry)) (netAt unlimited (parent .entry) (wire .entry) (kind .entry) (pin .entry) (polarity .entry)) (netAt unlimited (parent .exit) (wire .exit) (kind .exit) (pin .exit) (polarity .exit)) (limitsOf (now (limit .entry)) (now (cb .entry)) (now (repeater .entry))) (limitsOf (now (limit .exit)) (now (cb .exit)) (now (repeater .exit))) n (now (place .exit)) ⌝ }
 {
-    let said = net_file::read_net(s, parent, wire, kind, pin, polarity);
+    let said = net_reader::read_net(s, parent, wire, kind, pin, polarity);
     let before = Limits {
         limit: *limit,
         pin: *cb,
@@ -111,7 +111,7 @@ pub extern "C" fn proved_write_net(
         pin: cb,
         repeater: repeater,
     };
-    let said = net_file::write_net(limits, parent, wire, kind, pin, polarity, out);
+    let said = net_writer::write_net(limits, parent, wire, kind, pin, polarity, out);
     *place = net_wrote_bytes(said);
     net_wrote_number(said)
 }

@@ -120,7 +120,7 @@ pub extern "C" fn mustorgyel_check(net: &[u8], placement: &[u8]) -> u32
     let mut kind = [0u8; 1025];
     let mut pin = [0u32; 1025];
     let mut polarity = [0u8; 1025];
-    let read = net_file::read_net(
+    let read = net_reader::read_net(
         net,
         &mut parent,
         &mut wire,

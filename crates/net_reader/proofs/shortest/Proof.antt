@@ -1,0 +1,7 @@
+-- `shortest` is the definitions' own chain of minima.
+use borrow.Author.Needs.{needs}
+use Rattle.net_reader.proofs.shortest.Statement.{statement}
+use Rattle.net_reader.proofs.shortest.Tie as tie
+
+pub shortest-spec : {M : Type 1} → statement M
+shortest-spec = tie.close (tie.spec (λ c κs. search needs) (λ c κs. search needs) (λ c κs. search needs) (λ c κs. search needs) (λ c. cc))

@@ -1,0 +1,4 @@
+pub mod Variants
+pub mod Judging
+pub mod Filling
+pub mod Leaving
