@@ -1,4 +1,4 @@
--- Document 01's 29-byte file, and it cut to 28 bytes, with one byte more, and with no node, by computation.
+-- The file of RULES 7.7, and what it is without its last byte, with one byte more, and with no node, by computation.
 use Prim.Native.Nat.{ℕ}
 use mathlib.Core.Path.{_≡_, refl}
 use mathlib.Core.List.{List, [], _∷_, _++_}

@@ -4,4 +4,6 @@ pub mod WasRead
 pub mod ReadWrite
 pub mod WriteRead
 pub mod Determined
+pub mod FileNumbers
+pub mod Numbers
 pub mod Example

@@ -168,7 +168,7 @@ same-bytes s n by e =
     ∙ bytes-back s by (n .limits) (source ∷ nodesOf (fieldsOf s)) 1025 12 1 (rw (w .is) at (w .sound)) refl in
     record { sound = rw (fit, r, clear, all, c); bytes = rw (k, back) front }
 
--- ---- "A net file read and written again gives the same bytes"
+-- ---- read, and written again: RULES 3.13
 
 pub answered-read : (lent : Net) (o : Outcome) (l : Limits) (m : ℕ) → Read l m ≡ answered (room lent) o → (n : Net) × (o ≡ read n) × (m ≤ room lent) × (n .limits ≡ l) × (places n ≡ m) × (filled lent o ≡ laidOver lent 0 n)
 answered-read lent (refused r) l m e = never (cc)

@@ -170,7 +170,7 @@ module _ (n : Net) (holds : judged n ≡ Sound) where
       ∙ ap (λ (x : Net). whenSound (fieldsJudged x (length (netBytes n)) 1 (fieldsOf (netBytes n))) x) is
       ∙ ap (λ (j : Judged). whenSound j n) (b .sound)
 
--- ---- "a net written and read again gives the same net"
+-- ---- written, and read again: RULES 3.13
 
 was-written : (j : Judged) (bs out : List ℕ) (m : ℕ) → Written m ≡ written j bs out → (j ≡ Sound) × (m ≡ length bs) × (length bs ≤ length out) × (leftIn j bs out ≡ sets out 0 bs)
 was-written (Unsound r) bs out m e = never (cc)

@@ -1,4 +1,4 @@
--- Document 01, "Files": "A net file is one 01, then 02 and 03 fields in node order, then 7F". What a file says, and the bytes of a net.
+-- What the bytes of a net file say, and the bytes of a net: RULES 3.6, 5.1 to 5.3.
 use Prim.Native.Nat.{ℕ, zero, suc, _+_, _-_, min}
 use mathlib.Core.Path.{_≡_}
 use mathlib.Core.Bool.{Bool, true}
@@ -35,7 +35,7 @@ use Rattle.net_file.specs.declared.NetWrote.the-variants.{Written, Refus
 
 -- ---- one field, where it is due or not
 
--- the front: the limits, and nothing else is due
+-- the front: the limits, and nothing else is due (RULES 5.2)
 abbrev pub frontValue : ℕ → Value → Front
 frontValue at (LimitsField l) = pick (limitsInRange l) (Found l) (NotFound (OutOfRange at))
 frontValue at (Branch p w) = NotFound (NotDue at)
@@ -48,7 +48,7 @@ abbrev pub frontOf : DueRead → Front
 frontOf (Due f) = frontValue (f .at) (f .value)
 frontOf (NotThere r) = NotFound r
 
--- every later place: a branch point, a sink or the end
+-- every later place: a branch point, a sink or the end (RULES 5.2)
 abbrev pub nodeDue : ℕ → Bool
 nodeDue t = pick (eqb t 2) true (pick (eqb t 3) true (eqb t 127))
 
@@ -95,11 +95,11 @@ nodesOf (wrong r) = []
 abbrev pub columnsOf : Limits → List Node → Net
 columnsOf l ds = net l (map (λ (d : Node). d .parent) ds) (map (λ (d : Node). d .wire) ds) (map (λ (d : Node). d .kind) ds) (map (λ (d : Node). d .pin) ds) (map (λ (d : Node). d .polarity) ds)
 
--- "node 0's five places all hold 0"
+-- node 0, which has no field: RULES 1.13, 3.6
 abbrev pub source : Node
 source = record { parent = 0; wire = 0; kind = 0; pin = 0; polarity = 0 }
 
--- "field by field from the front": from node i on, each is judged as in columns, at its field's start. "After 7F comes 6, then 5"
+-- from node i on each node is judged as in columns, and refused where its field begins (RULES 5.1); behind the end 6, and then 5 (RULES 5.3)
 unfoldable pub fieldsJudged : Net → ℕ → ℕ → Fields → Judged
 fieldsJudged n size i (nodeAt at d more) = thenJudge (nodeJudged n i at) (fieldsJudged n size (suc i) more)
 fieldsJudged n size i (endAt next) = thenJudge (unless (leb size next) (BytesAfterEnd next)) (childed n)
@@ -133,9 +133,9 @@ fromFront s (NotFound r) = refused r
 unfoldable pub netOf : List ℕ → Outcome
 netOf s = fromFront s (frontOf (dueAt 1 s 0))
 
--- ---- what the reader answers, and leaves in the lent columns
+-- ---- what the reader answers, and leaves in the lent columns: RULES 6.6
 
--- "Columns lent to be filled may differ in length; the shortest is the room"
+-- the shortest of the lent columns: RULES 6.2
 abbrev pub room : Net → ℕ
 room lent = min (length (lent .parents)) (min (length (lent .wires)) (min (length (lent .kinds)) (min (length (lent .pins)) (length (lent .polarities)))))
 
@@ -172,7 +172,7 @@ bytesFrom nodes (suc k) i = bytesOf (fieldOf (nodes i)) ++ bytesFrom nodes k (su
 abbrev pub netBytes : Net → List ℕ
 netBytes n = bytesOf (LimitsField (n .limits)) ++ bytesFrom (node n) (places n - 1) 1
 
--- ---- what the writer answers, and leaves in the lent buffer
+-- ---- what the writer answers, and leaves in the lent buffer: RULES 6.7
 
 abbrev pub written : Judged → List ℕ → List ℕ → NetWrote
 written Sound bytes out = pick (ltb (length out) (length bytes)) (NotWritten (NoRoom (length bytes))) (Written (length bytes))
@@ -186,7 +186,7 @@ pub record WroteNet (n : Net) (out left : List ℕ) (r : NetWrote) : Type 0 wher
   pub answer : r ≡ written (judged n) (netBytes n) out
   pub buffer : left ≡ leftIn (judged n) (netBytes n) out
 
--- ---- "Numbers given back": 0 and the places filled or the bytes written, or a refusal's number and place
+-- ---- RULES 4.1, 4.5: 0 and the places filled or the bytes written, or a refusal's number and place
 
 abbrev pub readNumber : NetRead → ℕ
 readNumber (Read l n) = 0

@@ -54,6 +54,12 @@ listed-all nodes ds h (suc k) i e = rw (drop-cons ds i source (omega arith), h i
 
 -- ---- the three ways out
 
+pub room-left : {most short n : ℕ} → most ≡ short → most < n → short < n
+room-left e h = omega arith
+
+pub room-enough : {most short n : ℕ} → most ≡ short → n ≤ most → n ≤ short
+room-enough e h = omega arith
+
 told-refused : (lent : Net) (o : Outcome) (x : Refusal) → tells o ≡ NotRead x → (NotRead x ≡ answered (room lent) o) × (lent ≡ filled lent o)
 told-refused lent (read n) x e = never (cc)
 told-refused lent (refused r) x e = (sym e, refl)

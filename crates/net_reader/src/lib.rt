@@ -1,35 +1,37 @@
-// The reader of a net file: judges all of it, and then fills five lent columns.
+// A net file, read into five lent columns: RULES 6.6.
 ghost use mathlib.Core.Path.{_≡_};
-ghost use Prim.Native.Nat.{min};
+ghost use Prim.Native.Nat.{_≤_, min};
 ghost use Rattle.rules.specs.Net.{netAt, node};
 ghost use Rattle.net.specs.Counted.{unlimited};
 ghost use Rattle.field.specs.Listed.{listed};
-ghost use Rattle.net_file.specs.NetFile.{columnsOf, laidOver, ReadNet};
-ghost use Rattle.net_reader.specs.Room.{Room};
+ghost use Rattle.net_file.specs.NetFile.{columnsOf, room, laidOver, ReadNet};
 use net_file::NetRead;
 use rules::Refusal;
 
-// The first n places of our columns, copied into lent ones.
+// The first n places of our own columns, copied into lent ones.
 fn fill(
     n: usize,
-    parents: &[u16],
-    wires: &[u32],
-    kinds: &[u8],
-    pins: &[u32],
-    polarities: &[u8],
+    parents: &[u16; 1025],
+    wires: &[u32; 1025],
+    kinds: &[u8; 1025],
+    pins: &[u32; 1025],
+    polarities: &[u8; 1025],
     parent: &mut [u16],
     wire: &mut [u32],
     kind: &mut [u8],
     pin: &mut [u32],
     polarity: &mut [u8],
 )
-    requires { ⌜ Room n (netAt unlimited parents wires kinds pins polarities) × Room n (netAt unlimited parent wire kind pin polarity) ⌝ }
+    requires { ⌜ (n ≤ 1025) × (n ≤ room (netAt unlimited parent wire kind pin polarity)) ⌝ }
     ensures { λ _. ⌜ netAt unlimited (parent .exit) (wire .exit) (kind .exit) (pin .exit) (polarity .exit) ≡ laidOver (netAt unlimited (parent .entry) (wire .entry) (kind .entry) (pin .entry) (polarity .entry)) 0 (columnsOf unlimited (listed (node (netAt unlimited (parents .entry) (wires .entry) (kinds .entry) (pins .entry) (polarities .entry))) n 0)) ⌝ }
 {
     let mut i: usize = 0;
     while i < n {
-        let d = net::node_at(parents, wires, kinds, pins, polarities, i);
-        net_scan::put_node(d, i, parent, wire, kind, pin, polarity);
+        parent[i] = parents[i];
+        wire[i] = wires[i];
+        kind[i] = kinds[i];
+        pin[i] = pins[i];
+        polarity[i] = polarities[i];
         i += 1;
     }
 }
@@ -40,14 +42,14 @@ fn lower(a: usize, b: usize) -> usize
     if a <= b { a } else { b }
 }
 
-// The room: the shortest column.
+// The room: the shortest column (RULES 6.2).
 fn shortest(parent: usize, wire: usize, kind: usize, pin: usize, polarity: usize) -> usize
     ensures { λ r. ⌜ r ≡ min parent (min wire (min kind (min pin polarity))) ⌝ }
 {
     lower(parent, lower(wire, lower(kind, lower(pin, polarity))))
 }
 
-// Reads a net file into five lent columns: judges all of it, and then fills them.
+// Reads a net file into five lent columns. All of it is judged, and then the room, before anything is filled.
 pub fn read_net(
     s: &[u8],
     parent: &mut [u16],

@@ -1,4 +1,5 @@
-// The bytes of a net file, judged: field by field, each node kept where the caller says. Nothing is filled in before all is judged.
+// Judges the bytes of a net file, field by field: RULES 5.1 to 5.3. The nodes go into columns of the reader's own, arrays of 1,025 places, which no
+// column is that a caller lends: so nothing lent changes before all is judged.
 ghost use mathlib.Core.Path.{_≡_};
 ghost use mathlib.Core.List.{[], _∷_};
 ghost use Prim.Native.Nat.{_+_, _<_, _≤_, _^_};
@@ -6,7 +7,7 @@ ghost use lib.ListN.{length, getD};
 ghost use lib.Dec.{leb};
 ghost use Rattle.rules.specs.Net.{netAt};
 ghost use Rattle.rules.specs.Judge.{unless, thenJudge, childedBy};
-ghost use Rattle.net.specs.Counted.{unlimited, Within};
+ghost use Rattle.net.specs.Counted.{unlimited};
 ghost use Rattle.field.specs.Format.{cutAt, dueAt};
 ghost use Rattle.net_file.specs.NetFile.{frontValue, frontOf, nodeDue, takenValue, takenAt, netFrom, netOf, columnsOf, laidOver};
 ghost use Rattle.net_scan.specs.Kept.{blank, JudgedFile};
@@ -22,6 +23,7 @@ use rules::Limits;
 use rules::Node;
 use rules::Refusal;
 
+// A body that is cut: 1 where the tag is due, else 2.
 fn cut(due: bool, place: usize) -> Refusal
     ensures { λ r. ⌜ r ≡ cutAt due place ⌝ }
 {
@@ -120,7 +122,7 @@ fn take_node(s: &[u8], at: usize) -> Taken
     }
 }
 
-// After the end of a file of n nodes: 6, then 5.
+// Behind the end of a file of n places: 6, then 5.
 fn finish(s: &[u8], next: usize, kinds: &[u8], counts: &[u8; 1025], n: usize) -> Judged
     requires { ⌜ (n ≤ length (now kinds)) × (length (now counts) ≡ 1025) × (n ≤ 1025) ⌝ }
     ensures { λ r. ⌜ r ≡ thenJudge (unless (leb (length (now (s .entry))) next) (Refusal.BytesAfterEnd next)) (childedBy (λ j. getD (now (kinds .entry)) j 0) (λ j. getD (now (counts .entry)) j 0) n) ⌝ }
@@ -131,16 +133,16 @@ fn finish(s: &[u8], next: usize, kinds: &[u8], counts: &[u8; 1025], n: usize) ->
     net::all_childed(kinds, counts, n)
 }
 
-pub fn put_node(
+fn put_node(
     d: Node,
     i: usize,
-    parent: &mut [u16],
-    wire: &mut [u32],
-    kind: &mut [u8],
-    pin: &mut [u32],
-    polarity: &mut [u8],
+    parent: &mut [u16; 1025],
+    wire: &mut [u32; 1025],
+    kind: &mut [u8; 1025],
+    pin: &mut [u32; 1025],
+    polarity: &mut [u8; 1025],
 )
-    requires { ⌜ Within i (now parent) (now wire) (now kind) (now pin) (now polarity) ⌝ }
+    requires { ⌜ i < 1025 ⌝ }
     ensures { λ _. ⌜ netAt unlimited (parent .exit) (wire .exit) (kind .exit) (pin .exit) (polarity .exit) ≡ laidOver (netAt unlimited (parent .entry) (wire .entry) (kind .entry) (pin .entry) (polarity .entry)) i (columnsOf unlimited (d ∷ [])) ⌝ }
 {
     parent[i] = d.parent;
@@ -150,16 +152,15 @@ pub fn put_node(
     polarity[i] = d.polarity;
 }
 
-// The fields after the limits, judged one by one over the kinds of the nodes so far and the children that each has. The nodes are kept in
-// columns of our own, since nothing is written to lent ones before all is judged.
+// The fields after the limits, judged one by one over the kinds of the nodes so far and the children that each has.
 fn judge_fields(
     s: &[u8],
     l: Limits,
-    parent: &mut [u16],
-    wire: &mut [u32],
-    kind: &mut [u8],
-    pin: &mut [u32],
-    polarity: &mut [u8],
+    parent: &mut [u16; 1025],
+    wire: &mut [u32; 1025],
+    kind: &mut [u8; 1025],
+    pin: &mut [u32; 1025],
+    polarity: &mut [u8; 1025],
 ) -> NetRead
     requires { ⌜ netAt unlimited parent wire kind pin polarity ≡ blank ⌝ }
     ensures { λ r. ⌜ JudgedFile (now (s .entry)) (netFrom (now (s .entry)) l) (netAt unlimited (parent .exit) (wire .exit) (kind .exit) (pin .exit) (polarity .exit)) r ⌝ }
@@ -197,14 +198,14 @@ fn judge_fields(
     }
 }
 
-// A whole file, judged.
+// A whole file. Where it is a net, its nodes stand in the columns from place 1 on.
 pub fn judge_file(
     s: &[u8],
-    parent: &mut [u16],
-    wire: &mut [u32],
-    kind: &mut [u8],
-    pin: &mut [u32],
-    polarity: &mut [u8],
+    parent: &mut [u16; 1025],
+    wire: &mut [u32; 1025],
+    kind: &mut [u8; 1025],
+    pin: &mut [u32; 1025],
+    polarity: &mut [u8; 1025],
 ) -> NetRead
     requires { ⌜ netAt unlimited parent wire kind pin polarity ≡ blank ⌝ }
     ensures { λ r. ⌜ JudgedFile (now (s .entry)) (netOf (now (s .entry))) (netAt unlimited (parent .exit) (wire .exit) (kind .exit) (pin .exit) (polarity .exit)) r ⌝ }

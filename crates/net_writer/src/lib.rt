@@ -1,4 +1,4 @@
-// The writer of a net file: judges the columns, then the room, and then fills a lent buffer.
+// A net's file, written into a lent buffer: RULES 6.7.
 ghost use mathlib.Core.Path.{_≡_};
 ghost use Prim.Native.Nat.{_≤_};
 ghost use lib.ListN.{length};
@@ -46,7 +46,7 @@ fn net_size(parent: &[u16], wire: &[u32], kind: &[u8], pin: &[u32], polarity: &[
     size
 }
 
-// Each field goes into the part of the buffer that begins where the last one ended.
+// Each field goes to the rest of the buffer, right behind its predecessor (RULES 3.14).
 fn put_fields(
     l: Limits,
     parent: &[u16],
@@ -72,7 +72,7 @@ fn put_fields(
     field_writer::write_field(&mut out[at..], Value::End);
 }
 
-// Writes a net's file: judges the net, then the room, and then fills the buffer.
+// Writes a net's file. The columns are judged, and the room, in the order of RULES 5.9, before anything is written.
 pub fn write_net(
     limits: Limits,
     parent: &[u16],
