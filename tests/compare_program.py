@@ -127,15 +127,6 @@ def examples(tally):
         tally.expect(answer[0].decode().split("\n")[0:len(said)] == said, f"{file.name}: {said} is due, and not {answer[0][:40]!r}")
 
 
-def launcher(tally):
-    words = subprocess.run([LAUNCHER, "--help"], capture_output=True, text=True, check=False)
-    numbers = [line.split()[0] for line in words.stdout.splitlines() if line[:4].strip().isdigit()]
-    tally.expect(words.returncode == 0 and numbers == [str(n) for n in range(1, 14)], "--help explains the refusals 1 to 13")
-    for wrong in (["no such file"], ["--nothing"], ["two", "words"], [str(ROOT)]):
-        done = subprocess.run([LAUNCHER] + wrong, capture_output=True, check=False)
-        tally.expect(done.returncode == 2 and done.stderr and not done.stdout, f"the launcher on {wrong}")
-
-
 def main():
     tally = Tally(sys.argv[1])
     tally.expect(ask(data=EXAMPLE) == (PRINTED, 0), "document 01's example, byte for byte")
@@ -146,7 +137,6 @@ def main():
     for name, data in [*made_files(), *stored_files(), *changed_files(int(os.environ.get("CHANGED", "100")))]:
         answer = ask(data=data)
         tally.judged(name, data, answer)
-    launcher(tally)
     print(f"the program: {tally.asked} questions, {tally.wrong} wrong")
     sys.exit(tally.wrong > 0)
 
