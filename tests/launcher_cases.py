@@ -87,6 +87,38 @@ def standard_input():
     os.close(folder)
 
 
+def failing_reads():
+    """Not the end of the input: at the first read, at a later one, and where the next read would find an end."""
+    with open("/dev/null", "wb") as write_only:
+        says("standard input that is open for writing", ask(stdin=write_only), "standard input", "read")
+    with open("/proc/self/mem", "rb") as memory:
+        says("standard input that cannot be read", ask(stdin=memory), "standard input", "read")
+    read, write = os.pipe()
+    os.set_blocking(read, False)
+    says("standard input that does not wait", ask(stdin=read), "standard input", "read")
+    os.write(write, EXAMPLE.read_bytes()[:20])
+    says("the same after 20 bytes", ask(stdin=read), "standard input", "read")
+    os.close(read)
+    os.close(write)
+    with broken_connection(EXAMPLE.read_bytes()) as connection:
+        says("a whole file and then a connection that breaks", ask(stdin=connection), "standard input", "read")
+    with broken_connection((EXAMPLE.read_bytes() + bytes(16384))[:16384]) as connection:
+        answers("a connection that breaks after the bytes that decide", ask(stdin=connection), b"refused 6 place 29\n", 1)
+
+
+def broken_connection(data):
+    """A connection that delivered some bytes and was then reset."""
+    with socket.create_server(("127.0.0.1", 0)) as server:
+        ours = socket.create_connection(server.getsockname())
+        theirs = server.accept()[0]
+    theirs.sendall(data)
+    theirs.setsockopt(socket.SOL_SOCKET, socket.SO_LINGER, struct.pack("ii", 1, 0))
+    while len(ours.recv(len(data), socket.MSG_PEEK)) < len(data):
+        time.sleep(0.01)
+    theirs.close()
+    return ours
+
+
 def file_names():
     with tempfile.TemporaryDirectory() as room:
         room = pathlib.Path(room)
@@ -248,7 +280,7 @@ def no_building(small):
 
 
 def no_answers(small):
-    for text in ("", "least 0\n", "refused 1 place 0"):
+    for text in ("least 0\n", "refused 1 place 0"):
         small.prints(text)
         ends(f"a program that prints {text!r}", small.ask(), "no whole answer")
     small.write("base", "lib.rt", "pub fn seven(b: &[u8]) -> u8 {\n    b[7]\n}\n")
@@ -256,7 +288,7 @@ def no_answers(small):
 
 
 def main():
-    for cases in (standard_output, standard_input, file_names, signals, kit_and_version, help_page):
+    for cases in (standard_output, standard_input, failing_reads, file_names, signals, kit_and_version, help_page):
         cases()
     with tempfile.TemporaryDirectory() as folder:
         os.chmod(folder, 0o755)

@@ -3,3 +3,5 @@ pub mod Listing
 pub mod Solving
 pub mod Reading
 pub mod Determined
+pub mod FirstBytes
+pub mod Whole

@@ -1,4 +1,5 @@
-// The program: a net file on standard input, its answer on standard output. Document 01, "The printed answer".
+// The program: a net file on standard input, its answer on standard output (RULES 7).
+use libc::STDERR_FILENO;
 use libc::STDIN_FILENO;
 use libc::STDOUT_FILENO;
 use listing::Listed;
@@ -13,9 +14,9 @@ ghost use Rattle.rules.specs.declared.Judged.the-variants.{Sound};
 ghost use Rattle.rules.specs.Net.{netAt};
 ghost use Rattle.rules.specs.Judge.{judged};
 ghost use Rattle.answer.specs.Text.{refusedLine};
-ghost use Rattle.mustorgyel.specs.Printed.{told, PrintsNet, Prints, Shows, Given, mostText};
+ghost use Rattle.mustorgyel.specs.Printed.{told, PrintsNet, Prints, Shows, Given, mostText, mostRead, Answers, countOf};
 
-// The bytes that are read: any longer input has a fault inside those.
+// The bytes that are taken in (RULES 7.2). They decide the answer, whatever comes after them.
 const INPUT: usize = 16384;
 
 // The places of a net's columns, and the entries of a placement's.
@@ -144,10 +145,71 @@ fn respond(s: &[u8], out: &mut [u8]) -> usize
     }
 }
 
+// The answer for an input, of which a buffer holds the first bytes: all of them, or as many as it has places.
+fn answer_input(buffer: &[u8], count: usize, out: &mut [u8]) -> usize
+    requires { ⌜ count ≤ length (now buffer) ⌝ }
+    requires { ⌜ mostRead ≤ length (now buffer) ⌝ }
+    requires { ⌜ mostText ≤ length (now out) ⌝ }
+    ensures { λ r. ⌜ Answers (now (buffer .entry)) count (take r (now (out .exit))) ⌝ }
+    ensures { λ r. ⌜ (r ≤ length (now (out .exit))) × (r ≡ length (take r (now (out .exit)))) ⌝ }
+{
+    respond(&buffer[..count], out)
+}
+
+enum Input {
+    Bytes(usize),
+    Failed,
+}
+
+// One read; no bytes are the end of the input. Every failure counts as one, also what another try might mend: the library does not say
+// which it was, and a piece of the input is not the input.
+fn read_part(part: &mut [u8]) -> Input
+    ensures { λ r. ⌜ countOf r ≤ length (now (part .exit)) ⌝ }
+{
+    let got = libc::read(STDIN_FILENO, part);
+    if got < 0 {
+        return Input::Failed;
+    }
+    Input::Bytes(io::count(got, part))
+}
+
+// Reads until the buffer is full, the input ends or a read fails. `io::read_full` does not tell the last two apart, and one more read
+// after it cannot always: a broken connection fails once, and after that it reads as one that ended.
+fn read_input(buffer: &mut [u8]) -> Input
+    ensures { λ r. ⌜ countOf r ≤ length (now (buffer .exit)) ⌝ }
+{
+    let mut count = 0;
+    while count < buffer.len() {
+        let part = read_part(&mut buffer[count..]);
+        let Input::Bytes(more) = part else {
+            return Input::Failed;
+        };
+        if more == 0 {
+            return Input::Bytes(count);
+        }
+        count += more;
+    }
+    Input::Bytes(count)
+}
+
+// The language has no exit status. Without an answer nothing, or not all of it, stands on standard output, and a line on standard error;
+// the launcher makes a status of that (RULES 7.8).
 fn main() {
     let mut input = [0u8; INPUT];
-    let count = io::read_full(STDIN_FILENO, &mut input);
+    let read = read_input(&mut input);
+    let Input::Bytes(count) = read else {
+        io::write_all(
+            STDERR_FILENO,
+            b"mustorgyel: standard input could not be read to its end\n",
+        );
+        return;
+    };
     let mut text = [0u8; TEXT];
-    let bytes = respond(&input[..count], &mut text);
-    io::write_all(STDOUT_FILENO, &text[..bytes]);
+    let bytes = answer_input(&input, count, &mut text);
+    if !io::write_all(STDOUT_FILENO, &text[..bytes]) {
+        io::write_all(
+            STDERR_FILENO,
+            b"mustorgyel: standard output could not be written\n",
+        );
+    }
 }
