@@ -129,7 +129,7 @@ def examples(tally):
 
 def main():
     tally = Tally(sys.argv[1])
-    tally.expect(ask(data=EXAMPLE) == (PRINTED, 0), "document 01's example, byte for byte")
+    tally.expect(ask(data=EXAMPLE) == (PRINTED, 0), "the README's example, byte for byte")
     tally.expect(ask_slowly(EXAMPLE) == (PRINTED, 0), "the same, one byte at a time")
     data = largest(1)[:3000]
     tally.expect(ask_slowly(data) == ask(data=data), "3,000 bytes, one at a time")

@@ -21,7 +21,7 @@ LAUNCHER = ROOT / "mustorgyel"
 EXAMPLE = ROOT / "examples/wire-14.net"
 PRINTED = b"least 1\nwire 1 offset 6 drives 10\nsource drives 10\n"
 KIT = pathlib.Path(shutil.which("rt")).resolve().parent.parent
-HANG = 60  # seconds; a build of the small crates takes ten
+HANG = 120  # seconds; a build of the small crates takes ten
 wrong = 0
 asked = 0
 
@@ -156,13 +156,15 @@ def signals():
 
 def wait_for_program(launcher):
     """The number of the process that runs the program for this launcher."""
-    while True:
+    until = time.time() + HANG
+    while time.time() < until:
         for folder in pathlib.Path("/proc").glob("[0-9]*"):
             with contextlib.suppress(OSError):
                 words = (folder / "cmdline").read_bytes().split(b"\0")
                 if words[-2:] == [os.fsencode(ROOT / "target/bin/mustorgyel"), b""] and launcher in ancestors(folder):
                     return int(folder.name)
         time.sleep(0.05)
+    sys.exit("the program does not start")
 
 
 def ancestors(folder):
