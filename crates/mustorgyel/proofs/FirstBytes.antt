@@ -32,7 +32,7 @@ use Rattle.net_file.specs.declared.Front.the-variants.{Limits as Found, Refused
 use Rattle.net_file.specs.declared.Taken.{Taken}
 use Rattle.net_file.specs.declared.Taken.the-variants.{Node as OneNode, End as Last, Refused as Neither}
 use Rattle.net_file.specs.NetFile.{frontOf, takenValue, takenOf, takenAt, Fields, nodeAt, follow, fieldsFrom, fieldsJudged, Outcome, read, refused, whenSound, netWith, fieldsOf, netFrom, fromFront, netOf}
-use Rattle.net_file.proofs.Reading.{WasRead, was-read}
+use Rattle.net_file.proofs.WasRead.{was-read}
 
 -- ---- one field, of at most 14 bytes
 
