@@ -26,7 +26,7 @@ CALLS = {
     "router": "mustorgyel_check",
     "field_reader": "read_field read_due",
     "field_writer": "write_field size",
-    "mustorgyel": "respond",
+    "mustorgyel": "answer_input",
 }
 
 
