@@ -15,7 +15,6 @@ use Rattle.rules.specs.declared.Judged.the-variants.{Sound, Refused as Unsound}
 use Rattle.rules.specs.Refusal.{numberOf, placeOf, judgedNumber, judgedPlace}
 use Rattle.rules.specs.Net.{Net, places}
 use Rattle.rules.specs.Judge.{judged}
-use Rattle.rules.proofs.Tests.{never}
 use Rattle.rules.proofs.Refusals.{numbered}
 use Rattle.rules.proofs.JudgedNumbers.{Row, row-is}
 use Rattle.net_file.specs.declared.NetRead.{NetRead}

@@ -2,10 +2,9 @@
 use Prim.Native.Nat.{ℕ, _+_, _-_, _<_, _≤_}
 use native.Mathlib.Omega.{arith}
 use native.Mathlib.Numerals.{add-one}
-use mathlib.Core.Path.{_≡_, refl, sym, ap, _∙_}
+use mathlib.Core.Path.{_≡_, sym, ap, _∙_}
 use mathlib.Core.List.{List, [], _∷_}
 use lib.ListN.{length, length-set}
-use lib.Seq.{length-sets}
 use Rattle.rules.specs.declared.Node.{Node}
 use Rattle.rules.specs.Net.{Net}
 use Rattle.net.specs.Counted.{unlimited}

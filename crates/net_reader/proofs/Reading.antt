@@ -10,18 +10,13 @@ use Rattle.rules.specs.declared.Limits.{Limits}
 use Rattle.rules.specs.declared.Node.{Node}
 use Rattle.rules.specs.declared.Refusal.{Refusal}
 use Rattle.rules.specs.declared.Refusal.the-variants.{NoRoom}
-use Rattle.rules.specs.declared.Judged.{Judged}
-use Rattle.rules.specs.declared.Judged.the-variants.{Sound, Refused as Unsound}
 use Rattle.rules.proofs.Tests.{never}
-use Rattle.rules.specs.Figures.{mostNodes, mostPlaces}
+use Rattle.rules.specs.Figures.{mostPlaces}
 use Rattle.rules.specs.Net.{Net, places, node}
 use Rattle.net.specs.Counted.{unlimited}
-use Rattle.field.specs.Format.{dueAt}
-use Rattle.net_file.specs.declared.Front.{Front}
-use Rattle.net_file.specs.declared.Front.the-variants.{Limits as Found, Refused as NotFound}
 use Rattle.net_file.specs.declared.NetRead.{NetRead}
 use Rattle.net_file.specs.declared.NetRead.the-variants.{Read, Refused as NotRead}
-use Rattle.net_file.specs.NetFile.{frontOf, nodesOf, columnsOf, source, fieldsJudged, Outcome, read, refused, whenSound, netWith, fieldsOf, netFrom, fromFront, netOf, room, laidOver, answered, filled, ReadNet}
+use Rattle.net_file.specs.NetFile.{nodesOf, columnsOf, source, Outcome, read, refused, fieldsOf, netOf, room, laidOver, answered, filled, ReadNet}
 use Rattle.field.specs.Listed.{listed}
 use Rattle.net_scan.specs.Kept.{tells, blank, JudgedFile}
 use Rattle.net_file.proofs.Nodes.{node-is}

@@ -1,11 +1,10 @@
 -- The judge of a file: its loop has come to node i at the place `at`. What is left of the fields decides the answer; the two arrays hold
 -- the kinds of the nodes before i and the children that each node has among them.
-use Prim.Native.Nat.{ℕ, zero, suc, _+_, _-_, _<_, _≤_}
+use Prim.Native.Nat.{ℕ, suc, _+_, _-_, _<_, _≤_}
 use native.Mathlib.Omega.{arith}
 use native.Mathlib.Decide.{ℕ-discrete, decLt}
 use native.Mathlib.Numerals.{add-one}
 use mathlib.Core.Path.{_≡_, refl, sym, ap, _∙_}
-use mathlib.Core.Bool.{true}
 use mathlib.Core.List.{List, _∷_}
 use lib.ListN.{length, getD, set, drop, replicate, length-set, length-replicate}
 use lib.Seq.{getD-set-same, getD-set-other}
@@ -14,21 +13,20 @@ use borrow.Author.Tests.{le-ltb}
 use Rattle.rules.specs.declared.Limits.{Limits}
 use Rattle.rules.specs.declared.Node.{Node}
 use Rattle.rules.specs.declared.Refusal.{Refusal}
-use Rattle.rules.specs.declared.Refusal.the-variants.{OutOfRange, WrongParent, BytesAfterEnd}
+use Rattle.rules.specs.declared.Refusal.the-variants.{BytesAfterEnd}
 use Rattle.rules.specs.declared.Judged.{Judged}
 use Rattle.rules.specs.declared.Judged.the-variants.{Sound, Refused as Unsound}
 use Rattle.rules.specs.Figures.{mostNodes, mostPlaces}
 use Rattle.rules.specs.Net.{Net, places, parent, kind, node}
-use Rattle.rules.specs.Judge.{unless, thenJudge, judgeEach, nodeInRange, parentFits, admitted, nodeJudged, hasChild, children, childedBy, childed}
+use Rattle.rules.specs.Judge.{unless, thenJudge, admitted, nodeJudged, hasChild, children, childedBy, childed}
 use Rattle.net.specs.Counted.{Tallied}
-use Rattle.rules.proofs.Tests.{never, unless-met, then-met}
-use Rattle.rules.proofs.Each.{each-same, each-met}
-use Rattle.rules.proofs.SoundSays.{Fits, parent-fits, NodeSound, node-sound}
+use Rattle.rules.proofs.Each.{each-same}
+use Rattle.rules.proofs.SoundSays.{Fits, parent-fits}
 use Rattle.net.proofs.Judging.{tallied-start, tallied-after}
 use Rattle.net_file.specs.declared.Taken.{Taken}
 use Rattle.net_file.specs.declared.Taken.the-variants.{Node as OneNode, End as Last, Refused as Neither}
 use Rattle.net_file.specs.declared.NetRead.the-variants.{Read, Refused as NotRead}
-use Rattle.net_file.specs.NetFile.{takenAt, Fields, nodeAt, endAt, wrong, follow, fieldsFrom, nodesOf, source, fieldsJudged, netWith, fieldsOf, netFrom}
+use Rattle.net_file.specs.NetFile.{takenAt, follow, fieldsFrom, nodesOf, source, fieldsJudged, netWith, fieldsOf, netFrom}
 use Rattle.net_scan.specs.Kept.{tells}
 use Rattle.net_file.proofs.FieldsJudged.{admitted-fits, admitted-anywhere}
 use Rattle.net_file.proofs.Nodes.{node-is, places-are, Heads, heads, none-left}

@@ -22,8 +22,8 @@ returns-2 c =
 fill-requires : tie.Need-fill-requires
 fill-requires c κs =
     let a = c .before .before .before .before .before .before .before .before .before .before .before .before .before .before .before .before .before .before .before .before .before .before .before .before .before .before .before .args in (
-      read-few (now (a .s)) (netAt unlimited (a .parent) (a .wire) (a .kind) (a .pin) (a .polarity)) (c .before .before .before .before .before .before .before .before .before .before .before .before .before .before .before .judge-file .ensures) (c .before .before .before .before .before .before .before .before .before .before .before .before .before .judged .given .1),
-      room-enough (c .before .before .before .before .before .before .before .before .before .before .before .shortest .ensures) (c .before .before .before .before .before .before .before .before .before .before .if1 .left),
+      omega (arith, read-few (now (a .s)) (netAt unlimited (a .parent) (a .wire) (a .kind) (a .pin) (a .polarity)) (c .before .before .before .before .before .before .before .before .before .before .before .before .before .before .before .judge-file .ensures) (c .before .before .before .before .before .before .before .before .before .before .before .before .before .judged .given .1)),
+      omega (arith, c .before .before .before .before .before .before .before .before .before .before .before .shortest .ensures, c .before .before .before .before .before .before .before .before .before .before .if1 .left),
     )
 
 returns-3 : tie.Need-returns-3
