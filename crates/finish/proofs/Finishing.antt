@@ -12,7 +12,7 @@ use Rattle.rules.specs.Load.{entries, offsetsOn}
 use Rattle.rules.specs.Complete.{Completes, LeastAdded, NoneCompletes}
 use Rattle.rules.specs.Sound.{SoundNet}
 use Rattle.rules.proofs.Order.{in-order-rises}
-use Rattle.frontier.specs.Cell.{Cell, kindOf, cellOf}
+use Rattle.frontier.specs.Cell.{Cell, cellOf}
 use Rattle.frontier.specs.Placed.{onWires, placed}
 use Rattle.relief.specs.Pieces.{leadOf}
 use Rattle.relief.specs.Marks.{Marks, addedAt, Marked, Stuck}
@@ -20,6 +20,7 @@ use Rattle.relief.proofs.Runs.{in-order-sorted}
 use Rattle.relief.proofs.Least.{completed, least-added, none-completes}
 use Rattle.states.specs.declared.Cell as code
 use Rattle.states.specs.States.{modelOf, limitsOf, CellOk}
+use Rattle.states.proofs.Leaves.{model-is}
 use Rattle.buffers.specs.Going.{leadsIn, Led, marksOf, Lost, Tables, Going}
 use Rattle.adding.specs.Walks.{allAdded, Ready}
 use Rattle.finish.specs.declared.Finished.{Finished}
@@ -27,9 +28,6 @@ use Rattle.finish.specs.declared.Finished.the-variants.{Refused}
 use Rattle.finish.specs.Given.{Stood, Leads, Placed, short, fits}
 use Rattle.finish.specs.Answer.{Outcome, none, full, finished}
 use Rattle.finish.proofs.Leading.{lead-low}
-
-cell-is : (c : code.Cell) → CellOk c → modelOf c ≡ cellOf (limitsOf c)
-cell-is c ok = let q : c .span ≡ c .limit - c .pin = omega (arith, ok .eq) in (λ ι. record { kind = kindOf (c .repeater); cu = c .limit; cb = c .pin; D = q ι })
 
 module _ {c : code.Cell} {p w k pi po ws os leads : List ℕ} (ok : CellOk c) (sound : SoundNet (net (limitsOf c) p w k pi po)) (buffers : c .repeater ≡ 0) (stood : Stood (net (limitsOf c) p w k pi po) ws os) (led : Leads ws os leads) where
   abbrev n : Net
@@ -55,7 +53,7 @@ module _ {c : code.Cell} {p w k pi po ws os leads : List ℕ} (ok : CellOk c) (s
       (λ-both (λ τ L. Stuck τ n L (l .marks) (l .v)) (l .stuck))
     where
       λ-both : (P : Cell → (ℕ → ℕ) → Type 0) → P (modelOf c) (leadsIn leads) → P (cellOf (limitsOf c)) (λ i. leadOf (G i))
-      λ-both P x = subst (λ (τ : Cell). P τ (λ i. leadOf (G i))) (cell-is c ok) (subst (P (modelOf c)) same-leads x)
+      λ-both P x = subst (λ (τ : Cell). P τ (λ i. leadOf (G i))) (model-is ok) (subst (P (modelOf c)) same-leads x)
 
   -- the marks of the way up, read by the walks that count and write
   module _ (t : Tables) (going : Going (modelOf c) (net (limitsOf c) p w k pi po) (leadsIn leads) t 1 0) where
@@ -76,10 +74,10 @@ module _ {c : code.Cell} {p w k pi po ws os leads : List ℕ} (ok : CellOk c) (s
     }
 
     marked : Marked (cellOf (limitsOf c)) n (λ i. leadOf (G i)) m 0
-    marked = subst (λ (τ : Cell). Marked τ n (λ i. leadOf (G i)) m 0) (cell-is c ok) (subst (λ (L : ℕ → ℕ). Marked (modelOf c) n L m 0) same-leads (going .marked))
+    marked = subst (λ (τ : Cell). Marked τ n (λ i. leadOf (G i)) m 0) (model-is ok) (subst (λ (L : ℕ → ℕ). Marked (modelOf c) n L m 0) same-leads (going .marked))
 
     all-is : placed n (addedAt (cellOf (limitsOf c)) n G m) ≡ allAdded (modelOf c) w (t .below) (t .on) (entries ws os)
-    all-is = ap (λ (τ : Cell). onWires (addedAt τ n G m) (places n - 1) 1) (sym (cell-is c ok)) ∙ ap (λ (N : ℕ). onWires (addedAt (modelOf c) n G m) (N - 1) 1) (sym (sound .wires-long))
+    all-is = ap (λ (τ : Cell). onWires (addedAt τ n G m) (places n - 1) 1) (sym (model-is ok)) ∙ ap (λ (N : ℕ). onWires (addedAt (modelOf c) n G m) (N - 1) 1) (sym (sound .wires-long))
 
     completes : Completes n g (allAdded (modelOf c) w (t .below) (t .on) (entries ws os))
     completes = subst (Completes n g) all-is (completed sound buffers g (stood .order) m marked)

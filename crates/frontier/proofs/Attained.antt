@@ -11,7 +11,7 @@ use Rattle.frontier.specs.Cell.{Kind, buf, inv, Cell, turn}
 use Rattle.frontier.specs.Plan.{Plan, count, GoodW, topW, load, Good, Par}
 use Rattle.frontier.specs.Spaced.{spread, steps}
 use Rattle.frontier.specs.Frontier.{State, lost, has, Acc, fail, all, ifz, mergeBy, merge, width, atSurplus, req, T, second, cand, via, wire, conv, join, closeAt, close, leaf, acc, node}
-use Rattle.frontier.proofs.Lower.{T-mono, ceil-ok, Tidy, close-tidy, leaf-tidy}
+use Rattle.frontier.proofs.Lower.{T-mono, req-ok, T-fits, Tidy, close-tidy, leaf-tidy}
 
 -- a state is attained by a family Y of counts and loads that is closed upwards
 abbrev pub SAtt : (ℕ → ℕ → Type 0) → State → Type 0
@@ -148,15 +148,6 @@ module _ (τ : Cell) (eq : τ.cu ≡ τ.cb + τ.D) (pos : 1 ≤ τ.D) where
     watt-two buf w p c t a = watt-up buf w p (suc c) (suc (suc c)) τ.cb τ.cb (omega arith) (omega arith) (watt-add buf w p p c t (λ n. refl) a)
     watt-two inv w p c t a = watt-add inv w (suc p) p (suc c) τ.cb (λ n. omega arith) (watt-add inv w p (suc p) c t (λ n. omega arith) a)
 
-    req-ok : (κ : Kind) (π v : ℕ) → v ≤ τ.cu + req τ κ π v * τ.D
-    unfolding req
-    req-ok buf π v = ceil-ok τ eq pos v
-    req-ok inv π v = omega (arith, ceil-ok τ eq pos v)
-
-    T-fits : (v r : ℕ) → v ≤ τ.cu + r * τ.D → T τ v r ≤ τ.cu
-    T-fits v zero h = omega arith
-    T-fits v (suc r) h = omega arith
-
     base-att : (κ : Kind) (w n h p r : ℕ) → X (turn κ p r) n h → h ≤ τ.cu → w + h ≤ τ.cu + r * τ.D → WAtt τ X κ w p (n + r) (T τ (w + h) r)
     base-att κ w n h p r x hc v =
         let len : length (spread τ w 0 h r) ≡ r = spread-length w 0 h r in
@@ -169,21 +160,21 @@ module _ (τ : Cell) (eq : τ.cu ≡ τ.cb + τ.D) (pos : 1 ≤ τ.D) where
           good = spread-good w 0 h r (omega arith) hc;
           cnt = omega arith;
           top = up;
-          fits = le-trans up (T-fits (w + h) r v);
+          fits = le-trans up (T-fits τ eq pos (w + h) r v);
         }
 
     cand-att : (κ : Kind) (π w n h p : ℕ) → X (turn κ p (req τ κ π (w + h))) n h → h ≤ τ.cu → SAtt (WAtt τ X κ w p) (cand τ κ π n (w + h))
     unfolding cand second
     cand-att buf π w n h p x hc =
         let r : ℕ = req τ buf π (w + h) in
-        let base : WAtt τ X buf w p (n + r) (T τ (w + h) r) = base-att buf w n h p r x hc (req-ok buf π (w + h)) in (
+        let base : WAtt τ X buf w p (n + r) (T τ (w + h) r) = base-att buf w n h p r x hc (req-ok τ eq pos buf π (w + h)) in (
           base,
           pick (WAtt τ X buf w p) (suc (n + r)) (T τ (w + h) r) τ.cb (watt-up buf w p (n + r) (suc (n + r)) (T τ (w + h) r) (T τ (w + h) r) (omega arith) (omega arith) base)
               (watt-add buf w p p (n + r) (T τ (w + h) r) (λ m. refl) base),
         )
     cand-att inv π w n h p x hc =
         let r : ℕ = req τ inv π (w + h) in
-        let base : WAtt τ X inv w p (n + r) (T τ (w + h) r) = base-att inv w n h p r x hc (req-ok inv π (w + h)) in
+        let base : WAtt τ X inv w p (n + r) (T τ (w + h) r) = base-att inv w n h p r x hc (req-ok τ eq pos inv π (w + h)) in
         (base, watt-up inv w p (n + r) (suc (n + r)) (T τ (w + h) r) (T τ (w + h) r) (omega arith) (omega arith) base)
 
     via-att : (κ : Kind) (π w p q : ℕ) (s : State) → ((v : ℕ) → turn κ p (req τ κ π v) ≡ q) → SAtt (X q) s → Tidy τ s → SAtt (WAtt τ X κ w p) (via τ κ π w s)

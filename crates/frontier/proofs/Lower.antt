@@ -103,6 +103,16 @@ module _ (τ : Cell) (eq : τ.cu ≡ τ.cb + τ.D) (pos : 1 ≤ τ.D) where
       let lt : (v - τ.cu) + (τ.D - 1) < suc r * τ.D = omega arith in
       omega (arith, div-lt-iff-lt-mul pos .1 lt)
 
+  -- as many as are asked for are enough, and then the wire hands up no more than the limit
+  pub req-ok : (κ : Kind) (π v : ℕ) → v ≤ τ.cu + req τ κ π v * τ.D
+  unfolding req
+  req-ok buf π v = ceil-ok v
+  req-ok inv π v = omega (arith, ceil-ok v)
+
+  pub T-fits : (v r : ℕ) → v ≤ τ.cu + r * τ.D → T τ v r ≤ τ.cu
+  T-fits v zero h = omega arith
+  T-fits v (suc r) h = omega arith
+
   -- ---- a candidate
   abbrev ParOk : Kind → ℕ → ℕ → Type 0
   ParOk buf π r = Unit {0}

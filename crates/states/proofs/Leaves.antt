@@ -1,13 +1,13 @@
 -- Laws of one wire: how large its numbers are, the cases of a merge, and the cases by the type. Each is a computation or a bound of sums.
-use Prim.Native.Nat.{ℕ, zero, suc, _+_, _-_, _*_, _/_, _%_, _≤_, _<_, min, max}
-use mathlib.Core.Path.{_≡_, refl, sym, subst, ap, _∙_}
-use native.Mathlib.Nat.{div-add-mod', mod-lt, mul-le-mul-right, mul-le-mul-left}
+use Prim.Native.Nat.{ℕ, zero, suc, _+_, _-_, _*_, _%_, _≤_, _<_, min, max}
+use mathlib.Core.Path.{_≡_, refl, ap}
+use native.Mathlib.Nat.{div-add-mod', mul-le-mul-left}
 use native.Mathlib.Omega.{arith}
-use Rattle.frontier.specs.Cell.{Kind, buf, inv, Cell, kindOf}
+use Rattle.frontier.specs.Cell.{Kind, buf, inv, Cell, kindOf, cellOf}
 use Rattle.frontier.specs.Frontier.{State, lost, has, mergeBy, merge, ceil, req, T, second, cand, via, wire}
-use Rattle.frontier.proofs.Lower.{ceil-ok, ceil-least}
+use Rattle.frontier.proofs.Lower.{ceil-least, req-ok, T-fits}
 use Rattle.states.specs.declared.Cell as code
-use Rattle.states.specs.States.{SmallS, wireOf, modelOf, CellOk}
+use Rattle.states.specs.States.{SmallS, wireOf, modelOf, limitsOf, CellOk}
 
 -- ---- the cases of a merge
 module _ (m a b n x y : ℕ) where
@@ -41,17 +41,6 @@ merge-small k (has m a b) (has n x y) h g = mergeBy-small k (n - m) (m - n) m a 
 pub small-up : (j k : ℕ) (s : State) → j ≤ k → SmallS j s → SmallS k s
 small-up j k lost l x = tt
 small-up j k (has m p q) l x = (omega arith, x .1, x .2)
-
--- ---- enough of them, and what is handed up then
-module _ (τ : Cell) (eq : τ.cu ≡ τ.cb + τ.D) (pos : 1 ≤ τ.D) where
-  pub req-ok : (κ : Kind) (π v : ℕ) → v ≤ τ.cu + req τ κ π v * τ.D
-  unfolding req
-  req-ok buf π v = ceil-ok τ eq pos v
-  req-ok inv π v = omega (arith, ceil-ok τ eq pos v)
-
-  pub T-fits : (v r : ℕ) → v ≤ τ.cu + r * τ.D → T τ v r ≤ τ.cu
-  T-fits v zero h = omega arith
-  T-fits v (suc r) h = omega arith
 
 module _ (τ : Cell) (eq : τ.cu ≡ τ.cb + τ.D) (pos : 1 ≤ τ.D) (small : τ.cu ≤ 1000000) where
   -- ---- how many on a wire
@@ -157,6 +146,9 @@ module _ (τ : Cell) where
   via-has κ π w s n a b e = rw e
 
 -- ---- over the code's limits
+pub model-is : {c : code.Cell} → CellOk c → modelOf c ≡ cellOf (limitsOf c)
+model-is {c} ok = let e : c .span ≡ c .limit - c .pin = omega (arith, ok .eq) in ap (λ (d : ℕ). record { kind = kindOf (c .repeater); cu = c .limit; cb = c .pin; D = d }) e
+
 pub ceil-le : {c : code.Cell} → CellOk c → (v : ℕ) → v ≤ 11000000 → ceil (modelOf c) v ≤ 11000000
 ceil-le {c} k v h = ceil-few (modelOf c) (k .eq) (k .pos) (k .small) v h
 

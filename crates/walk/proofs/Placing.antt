@@ -1,18 +1,17 @@
 -- A wire's offsets: as far apart as they may be, and then at the upper end. What they drive and hand up.
 use Prim.Native.Nat.{ℕ, zero, suc, _+_, _-_, _*_, _≤_, min}
-use mathlib.Core.Path.{_≡_, refl, sym, subst, ap, _∙_}
+use mathlib.Core.Path.{_≡_, sym, subst, ap, _∙_}
 use mathlib.Core.List.{List, [], _∷_, _++_, append-nil, append-assoc}
 use lib.ListN.{length, length-append, replicate}
 use native.Mathlib.Nat.{le-trans, le-refl}
 use native.Mathlib.Omega.{arith}
-use Rattle.frontier.specs.Cell.{Kind, buf, inv, Cell}
+use Rattle.frontier.specs.Cell.{Kind, Cell}
 use Rattle.frontier.specs.Plan.{GoodW, topW}
-use Rattle.frontier.specs.Frontier.{State, lost, has, T, req}
-use Rattle.frontier.proofs.Lower.{Tidy, T-mono, ceil-ok}
+use Rattle.frontier.specs.Frontier.{State, lost, has, T}
+use Rattle.frontier.proofs.Lower.{Tidy, T-mono, req-ok, T-fits}
 use Rattle.frontier.specs.Spaced.{spread, steps}
 use Rattle.frontier.proofs.Attained.{spread-length, spread-steps, spread-good, spread-top, add-good, add-top}
-use Rattle.states.proofs.Leaves.{req-ok, T-fits}
-use Rattle.cuts.specs.Choice.{Under, Loads, One, Met}
+use Rattle.cuts.specs.Choice.{Under, Loads, Met}
 use Rattle.cuts.specs.Offsets.{offsets}
 
 -- k more at the upper end
