@@ -1,5 +1,4 @@
 -- Two states merge by cases of which of them is lost.
-use Rattle.frontier.specs.Frontier.{lost, merge}
 use borrow.Author.Needs.{needs}
 use Rattle.states.proofs.merge.Statement.{statement}
 use Rattle.states.proofs.merge.Tie as tie

@@ -1,6 +1,5 @@
 -- A wire over its node's two states: for a buffer its own polarity alone, for an inverter the better of both.
 use mathlib.Core.Path.{sym, _∙_}
-use Rattle.frontier.specs.Frontier.{wire}
 use Rattle.states.proofs.Leaves.{over-0, over-1}
 use borrow.Author.Needs.{needs}
 use Rattle.states.proofs.over.Statement.{statement}
@@ -22,7 +21,7 @@ merge-requires : tie.Need-merge-requires
 merge-requires c κs = search needs
 
 returns-2 : tie.Need-returns-2
-returns-2 c = let x = c .before .before .via2 .ensures in let y = c .before .via3 .ensures in cc (over-1 _ _ _ _ _ (c .before .before .before .if1 .left))
+returns-2 c = c .merge .ensures ∙ rw (c .before .before .via2 .ensures, c .before .via3 .ensures) (sym (over-1 _ _ _ _ _ (c .before .before .before .if1 .left)))
 
 pub over-spec : {M : Type 1} → statement M
 over-spec =

@@ -1,7 +1,6 @@
 -- A wire over one state: the better of its two candidates, whose numbers are small.
 use native.Mathlib.Omega.{arith}
 use mathlib.Core.Path.{sym, subst, ap, _∙_}
-use Rattle.frontier.specs.Frontier.{wire}
 use Rattle.states.proofs.Leaves.{via-lost, via-has}
 use Rattle.states.specs.States.{st, Small}
 use native.Mathlib.Numerals.{add-one}
