@@ -87,7 +87,7 @@ twice-the-same =
     adds 15 4 (on 1 0 ∷ on 1 0 ∷ []) refl (omega arith)
     (higher (omega arith), record { above = omega arith; within = omega arith; offset = omega arith }, (further refl (omega arith), record { above = omega arith; within = omega arith; offset = omega arith }, tt))
 
--- "an inverter inside a pin of 11 looks legal": no buffer helps a pin
+-- a pin is no wire (RULES 10.1): no buffer relieves it
 pin-eleven : NoneCompletes (lone 0 11) (on 1 0 ∷ [])
 unfolding judged judgeEach children offsetsOn
 pin-eleven =

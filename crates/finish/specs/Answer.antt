@@ -1,4 +1,4 @@
--- What the call answers that finishes a half-buffered net. Document 02, Item 4.
+-- What the call answers that finishes a half-buffered net (RULES 8).
 use Prim.Native.Nat.{ℕ, _≤_, _<_}
 use mathlib.Core.Path.{_≡_}
 use mathlib.Core.List.{List}
@@ -22,7 +22,7 @@ unfoldable pub halfJudged : Net → List ℕ → List ℕ → Judged
 halfJudged n ws os = thenJudge (judged n) (thenJudge (unless (eqb (n .limits .repeater) 0) (OutOfRange 0)) (stood n ws os))
 
 -- of given entries g that stand on a sound net of buffers: 8 where no legal placement contains them all, 9 with the least number to add where there is no room for
--- it, else that many added entries in the lent columns. The room is for the added entries alone: "their number is the answer, and 9's"
+-- it, else that many added entries in the lent columns. The room is for the added entries alone (RULES 8.5)
 pub data Outcome (n : Net) (g : List Entry) (ws os ws′ os′ : List ℕ) (r : Finished) : Type 0 where
   none : NoneCompletes n g → r ≡ Refused NoLegalPlacement → Kept ws os ws′ os′ → Outcome n g ws os ws′ os′ r
   full : (k : ℕ) → LeastAdded n g k → roomIn ws os < k → r ≡ Refused (NoRoom k) → Kept ws os ws′ os′ → Outcome n g ws os ws′ os′ r
@@ -33,7 +33,7 @@ abbrev pub Answered : Judged → Net → List Entry → List ℕ → List ℕ �
 Answered judge.Sound n g ws os ws′ os′ r = Outcome n g ws os ws′ os′ r
 Answered (judge.Refused x) n g ws os ws′ os′ r = (r ≡ Refused x) × Kept ws os ws′ os′
 
--- in document 01's numbers: 0 is success
+-- as a number: 0 is success (RULES 4.1)
 abbrev pub finishedNumber : Finished → ℕ
 finishedNumber (Added k) = 0
 finishedNumber (Refused r) = numberOf r

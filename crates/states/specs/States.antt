@@ -1,5 +1,5 @@
 -- The code's numbers as the frontier's.
-use Prim.Native.Nat.{ℕ, zero, suc, _+_, _-_, _≤_}
+use Prim.Native.Nat.{ℕ, _+_, _≤_}
 use mathlib.Core.Path.{_≡_}
 use Rattle.rules.specs.declared.Limits.{Limits}
 use Rattle.frontier.specs.Cell as model
@@ -18,7 +18,7 @@ abbrev pub st : Side → State
 st Lost = lost
 st (Has m a b) = has m a b
 
--- what document 01 says of the limits
+-- the limits are in their ranges (RULES 1.9)
 pub record CellOk (c : Cell) : Type 0 where
   pub eq : c .limit ≡ c .pin + c .span
   pub pos : 1 ≤ c .span

@@ -1,30 +1,29 @@
 -- What the parts of a wire's cut say comes to what a step of the walk asks: its offsets are good over its node, and its node's surplus is within its budget.
-use Prim.Native.Nat.{ℕ, zero, suc, _+_, _-_, _*_, _%_, _≤_, _<_, min}
+use Prim.Native.Nat.{ℕ, zero, suc, _+_, _-_, _*_, _≤_, _<_, min}
 use mathlib.Core.Path.{_≡_, refl, sym, subst, ap, _∙_}
-use mathlib.Core.List.{List}
 use lib.ListN.{length, getD}
 use native.Mathlib.Omega.{arith}
 use native.Mathlib.Nat.{le-trans}
-use Rattle.rules.specs.Net.{Net, places, parent, wire, kind, pin, polarity}
-use Rattle.rules.specs.Tree.{hanging, under}
-use Rattle.frontier.specs.Cell.{Kind, buf, inv, Cell, turn}
-use Rattle.frontier.specs.Plan.{GoodW, topW}
-use Rattle.frontier.specs.Frontier.{State, lost, has, Acc, fail, all, ifz, acc, conv, close, leaf, width}
+use Rattle.rules.specs.Net.{Net, places, wire, kind, pin, polarity}
+use Rattle.rules.specs.Tree.{under}
+use Rattle.frontier.specs.Cell.{Cell, turn}
+use Rattle.frontier.specs.Plan.{topW}
+use Rattle.frontier.specs.Frontier.{State, lost, has, Acc, fail, all, ifz, acc, close, leaf, width}
 use Rattle.frontier.specs.Cert.{Table}
-use Rattle.frontier.proofs.Lower.{Tidy, close-tidy, leaf-tidy}
+use Rattle.frontier.proofs.Lower.{close-tidy, leaf-tidy}
 use Rattle.frontier.specs.Spaced.{spread}
 use Rattle.frontier.proofs.Attained.{spread-length}
-use Rattle.rows.specs.Rows.{loadAt, mixed, accOf}
+use Rattle.rows.specs.Rows.{loadAt, accOf}
 use Rattle.rows.specs.Sides.{sideOf}
 use Rattle.rows.proofs.Joining.{conv-mixed}
-use Rattle.tables.specs.Tables.{Tables, counts, loads, mores, headOf, nextOf, manyOf, slotOf, Holds, Kept, Filled, liftOf}
+use Rattle.tables.specs.Tables.{Tables, counts, loads, mores, headOf, nextOf, manyOf, slotOf, Holds, Filled}
 use Rattle.tables.proofs.Filling.{count-of}
 use Rattle.cuts.specs.declared.Cut.{Cut}
 use Rattle.cuts.specs.declared.Target.{Target}
-use Rattle.cuts.specs.Choice.{f3, Shared, Under, Met, Aim, Aimed, Budgeted, Budget, By, plain, turned, CutOk}
+use Rattle.cuts.specs.Choice.{f3, Under, Met, Aim, Aimed, Budgeted, Budget, By, plain, turned, CutOk}
 use Rattle.cuts.specs.Offsets.{offsets}
 use Rattle.cuts.proofs.Aiming.{turn-same, turn-other}
-use Rattle.walk.specs.Walk.{Within, Alive, WireOk, Parts, Decided}
+use Rattle.walk.specs.Walk.{Alive, WireOk, Parts, Decided}
 use Rattle.walk.proofs.Ending.{within-budget}
 use Rattle.walk.proofs.Placing.{stacked, stack-length, offsets-are, Stands, stands}
 

@@ -1,18 +1,17 @@
 -- What the decision at wire i may count on, and what it comes to: its node's slot and that of the wires after it are small, and some candidate meets its target.
-use Prim.Native.Nat.{ℕ, zero, suc, _+_, _-_, _*_, _≤_, _<_, min, max}
+use Prim.Native.Nat.{ℕ, zero, suc, _+_, _-_, _*_, _≤_, _<_, max}
 use mathlib.Core.Path.{_≡_, refl, sym, subst, ap, _∙_}
-use mathlib.Core.List.{List}
-use lib.ListN.{length, getD}
+use lib.ListN.{getD}
 use native.Mathlib.Omega.{arith}
-use Rattle.rules.specs.Net.{Net, places, parent, wire, kind, pin, polarity}
+use Rattle.rules.specs.Net.{Net, places, wire, kind, pin, polarity}
 use Rattle.rules.specs.Sound.{SoundNet}
 use Rattle.frontier.specs.Cell as model
-use Rattle.frontier.specs.Frontier.{State, lost, has, Acc, all}
+use Rattle.frontier.specs.Frontier.{State}
 use Rattle.states.specs.declared.Cell.{Cell}
 use Rattle.states.specs.States.{modelOf, st, CellOk, SmallS, wireOf}
 use Rattle.states.proofs.Leaves.{wire-0, wire-1}
 use Rattle.rows.specs.declared.Sides.{Sides}
-use Rattle.rows.specs.Rows.{loadAt, accOf, SmallAcc}
+use Rattle.rows.specs.Rows.{loadAt, SmallAcc}
 use Rattle.rows.specs.Sides.{NodeSides}
 use Rattle.rows.proofs.Joining.{row-small}
 use Rattle.tables.specs.Tables.{Tables, counts, loads, mores, headOf, nextOf, manyOf, slotOf, Holds, Filled, liftOf}

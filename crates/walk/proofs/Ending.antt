@@ -2,7 +2,7 @@
 use Prim.Native.Nat.{ℕ, _+_, _*_, _≤_}
 use mathlib.Core.Path.{_≡_, sym, subst}
 use native.Mathlib.Omega.{arith}
-use Rattle.rules.specs.Net.{Net, places, wire}
+use Rattle.rules.specs.Net.{Net, places}
 use Rattle.rules.specs.Tree.{none, tree}
 use Rattle.rules.proofs.Hanging.{hanging-end}
 use Rattle.frontier.specs.Cell.{Cell}

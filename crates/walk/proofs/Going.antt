@@ -14,7 +14,6 @@ use Rattle.frontier.specs.Cert.{Table}
 use Rattle.tables.specs.Tables.{liftOf}
 use Rattle.tables.proofs.Trees.{grown, acc-grow}
 use Rattle.cuts.specs.Choice.{f3}
-use Rattle.cuts.specs.Offsets.{offsets}
 use Rattle.walk.specs.Walk.{Alive, WireOk, Parts}
 use Rattle.walk.proofs.Walking.{Done, step-down}
 use Rattle.walk.proofs.Ending.{done-end}

@@ -1,11 +1,11 @@
 -- The walk's table under way: it stands for the invariant's functions, and one cut that is kept takes it a wire further.
-use Prim.Native.Nat.{ℕ, zero, suc, _+_, _-_, _*_, _≤_, _<_, min}
-use mathlib.Core.Path.{_≡_, refl, sym, subst, ap, _∙_}
+use Prim.Native.Nat.{ℕ, suc, _+_, _-_, _*_, _≤_, _<_}
+use mathlib.Core.Path.{_≡_, refl, sym, subst, _∙_}
 use mathlib.Core.List.{List}
 use native.Mathlib.Omega.{arith}
 use lib.ListN.{length}
 use Rattle.rules.specs.Net.{Net, places, parent, wire, kind}
-use Rattle.rules.specs.Tree.{hanging, under, tree}
+use Rattle.rules.specs.Tree.{under, tree}
 use Rattle.rules.specs.Sound.{SoundNet}
 use Rattle.frontier.specs.Cell.{Cell}
 use Rattle.frontier.specs.Frontier.{acc}

@@ -4,7 +4,7 @@ use mathlib.Core.Path.{_≡_, refl, sym, subst, ap, _∙_}
 use native.Mathlib.Omega.{arith}
 use native.Mathlib.Decide.{ℕ-discrete}
 use Rattle.rules.specs.Net.{Net, places, parent, wire, kind, pin, polarity}
-use Rattle.rules.specs.Tree.{Hanging, branch, hanging, under}
+use Rattle.rules.specs.Tree.{Hanging, hanging}
 use Rattle.rules.specs.Sound.{SoundNet}
 use Rattle.rules.proofs.Hanging.{hanging-skip}
 use Rattle.frontier.specs.Cell.{Cell}

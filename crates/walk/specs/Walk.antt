@@ -1,5 +1,5 @@
 -- What the walk down decides of each wire, and what its decisions come to.
-use Prim.Native.Nat.{ℕ, zero, suc, _+_, _-_, _*_, _≤_, _<_, min}
+use Prim.Native.Nat.{ℕ, zero, suc, _+_, _-_, _*_, _≤_, min}
 use mathlib.Core.Path.{_≡_}
 use mathlib.Core.List.{List}
 use lib.ListN.{length, getD}
@@ -7,7 +7,7 @@ use Rattle.rules.specs.Net.{Net, places, parent, wire, kind, pin, polarity}
 use Rattle.rules.specs.Tree.{hanging, under, tree}
 use Rattle.frontier.specs.Cell.{Cell, turn}
 use Rattle.frontier.specs.Plan.{planOf, count, GoodW, topW, Settled}
-use Rattle.frontier.specs.Frontier.{State, has, Acc, fail, all, acc, conv, close, width}
+use Rattle.frontier.specs.Frontier.{has, Acc, fail, all, acc, conv, close, width}
 use Rattle.frontier.specs.Cert.{Table}
 use Rattle.tables.specs.Tables.{liftOf}
 use Rattle.cuts.specs.declared.Cut.{Cut}
