@@ -4,4 +4,5 @@ pub mod Finishing
 pub mod Judging
 pub mod Determined
 pub mod Demands
+pub mod Numbers
 pub mod Examples
