@@ -14,9 +14,9 @@ use Rattle.rules.specs.Net.{Net}
 use Rattle.rules.specs.Load.{entries}
 use Rattle.rules.specs.Legal.{Legal, Least}
 use Rattle.rules.specs.Judge.{judged}
-use Rattle.solver.specs.declared.Solved.{Solved}
-use Rattle.solver.specs.declared.Solved.the-variants.{Placed, Refused}
-use Rattle.solver.specs.Answer.{Outcome, none, full, placed, Answered}
+use Rattle.solution.specs.declared.Solved.{Solved}
+use Rattle.solution.specs.declared.Solved.the-variants.{Placed, Refused}
+use Rattle.solution.specs.Answer.{Outcome, none, full, placed, Answered}
 use Rattle.columns.specs.Columns.{roomIn, Holds, wireColumn, offsetColumn}
 use Rattle.answer.specs.Text.{refusedLine}
 use Rattle.mustorgyel.specs.Printed.{Given, PrintsNet}

@@ -6,7 +6,7 @@ use listing::Listed;
 use net_file::NetRead;
 use rules::Limits;
 use rules::Refusal;
-use solver::Solved;
+use solution::Solved;
 ghost use mathlib.Core.Path.{_≡_};
 ghost use Prim.Native.Nat.{_≤_};
 ghost use lib.ListN.{length, take};

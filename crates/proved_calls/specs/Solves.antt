@@ -4,8 +4,8 @@ use mathlib.Core.Path.{_≡_}
 use mathlib.Core.List.{List}
 use Rattle.rules.specs.Net.{Net}
 use Rattle.rules.specs.Judge.{judged}
-use Rattle.solver.specs.declared.Solved.{Solved}
-use Rattle.solver.specs.Answer.{Answered, solvedNumber, solvedCount}
+use Rattle.solution.specs.declared.Solved.{Solved}
+use Rattle.solution.specs.Answer.{Answered, solvedNumber, solvedCount}
 
 pub record Solves (n : Net) (ws os ws′ os′ : List ℕ) (number place : ℕ) : Type 0 where
   pub said : Solved

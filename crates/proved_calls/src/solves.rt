@@ -1,10 +1,10 @@
 // The solver.
 use rules::Limits;
-use solver::Solved;
+use solution::Solved;
 ghost use mathlib.Core.Path.{_≡_};
 ghost use Rattle.rules.specs.Net.{netAt};
 ghost use Rattle.proved_calls.specs.Answers.{limitsOf};
-ghost use Rattle.solver.specs.Answer.{solvedNumber, solvedCount};
+ghost use Rattle.solution.specs.Answer.{solvedNumber, solvedCount};
 ghost use Rattle.proved_calls.specs.Solves.{Solves};
 
 fn solved_number(said: Solved) -> u32

@@ -8,9 +8,9 @@ use Rattle.rules.specs.declared.Judged.the-variants as judge
 use Rattle.rules.specs.declared.Limits.{Limits}
 use Rattle.rules.specs.Net.{Net, net}
 use Rattle.rules.specs.Judge.{judged}
-use Rattle.solver.specs.declared.Solved.{Solved}
-use Rattle.solver.specs.declared.Solved.the-variants.{Refused}
-use Rattle.solver.specs.Answer.{Outcome, Answered}
+use Rattle.solution.specs.declared.Solved.{Solved}
+use Rattle.solution.specs.declared.Solved.the-variants.{Refused}
+use Rattle.solution.specs.Answer.{Outcome, Answered}
 
 pub refused : (n : Net) (ws os : List ℕ) {x : Refusal} → judged n ≡ judge.Refused x → Answered (judged n) n ws os ws os (Refused x)
 refused n ws os {x} e = subst (λ (j : Judged). Answered j n ws os ws os (Refused x)) (sym e) (refl, record { wires = refl; offsets = refl })

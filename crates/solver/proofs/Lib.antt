@@ -1,3 +1,1 @@
-pub mod Rooting
 pub mod Answering
-pub mod Determined

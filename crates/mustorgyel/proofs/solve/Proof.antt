@@ -6,7 +6,7 @@ use mathlib.Core.List.{List}
 use lib.ListN.{replicate, length-replicate}
 use borrow.Author.Needs.{needs}
 use Rattle.rules.specs.Net.{Net, netAt}
-use Rattle.solver.specs.Answer.{Outcome}
+use Rattle.solution.specs.Answer.{Outcome}
 use Rattle.mustorgyel.specs.Printed.{placed}
 use Rattle.mustorgyel.proofs.Solving.{Places, outcome, places, prints-refusal}
 use Rattle.mustorgyel.proofs.solve.Statement.{statement}

@@ -2,9 +2,9 @@
 use mathlib.Core.Path.{ap}
 use borrow.Author.Needs.{needs}
 use Rattle.states.specs.States.{st}
-use Rattle.solver.proofs.Rooting.{picks-second, picks-first, picks-less, picks-more}
-use Rattle.solver.proofs.lighter.Statement.{statement}
-use Rattle.solver.proofs.lighter.Tie as tie
+use Rattle.source.proofs.Rooting.{picks-second, picks-first, picks-less, picks-more}
+use Rattle.source.proofs.lighter.Statement.{statement}
+use Rattle.source.proofs.lighter.Tie as tie
 
 enum-known-a : tie.Need-enum-known-a
 enum-known-a c = search needs

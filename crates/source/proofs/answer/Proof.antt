@@ -3,10 +3,10 @@ use native.Mathlib.Omega.{arith}
 use mathlib.Core.Path.{refl, ap}
 use borrow.Author.Needs.{needs}
 use Rattle.states.specs.States.{st}
-use Rattle.solver.specs.Answer.{none, full}
-use Rattle.solver.proofs.Rooting.{source-fit, none-there, least-there, root-is, rooted}
-use Rattle.solver.proofs.answer.Statement.{statement}
-use Rattle.solver.proofs.answer.Tie as tie
+use Rattle.solution.specs.Answer.{none, full}
+use Rattle.source.proofs.Rooting.{source-fit, none-there, least-there, root-is, rooted}
+use Rattle.source.proofs.answer.Statement.{statement}
+use Rattle.source.proofs.answer.Tie as tie
 
 mul-last : tie.Need-mul-last
 mul-last c =

@@ -1,4 +1,4 @@
--- What the solver answers, over the definitions of crate `rules` alone. Document 01: "The solver is one call for both types; it goes on with 8, then 9."
+-- What the solver answers, over the definitions of crate `rules` alone (RULES 5.10, 6.10, 6.11): the net's own refusals, then 8, then 9, then a placement.
 use Prim.Native.Nat.{ℕ, _≤_, _<_}
 use mathlib.Core.Path.{_≡_}
 use mathlib.Core.List.{List}
@@ -11,8 +11,8 @@ use Rattle.rules.specs.Net.{Net}
 use Rattle.rules.specs.Refusal.{numberOf, placeOf}
 use Rattle.rules.specs.Legal.{Legal, Least, NoneLegal}
 use Rattle.columns.specs.Columns.{roomIn, Kept, Holds}
-use Rattle.solver.specs.declared.Solved.{Solved}
-use Rattle.solver.specs.declared.Solved.the-variants.{Placed, Refused}
+use Rattle.solution.specs.declared.Solved.{Solved}
+use Rattle.solution.specs.declared.Solved.the-variants.{Placed, Refused}
 
 -- of a net that is sound: 8 where no placement is legal, 9 with the least count where there is no room for it, else a legal placement with the least count
 pub data Outcome (n : Net) (ws os ws′ os′ : List ℕ) (r : Solved) : Type 0 where
@@ -25,7 +25,7 @@ abbrev pub Answered : Judged → Net → List ℕ → List ℕ → List ℕ → 
 Answered judge.Sound n ws os ws′ os′ r = Outcome n ws os ws′ os′ r
 Answered (judge.Refused x) n ws os ws′ os′ r = (r ≡ Refused x) × Kept ws os ws′ os′
 
--- in document 01's numbers: 0 is success
+-- as a number: 0 is success (RULES 4.1)
 abbrev pub solvedNumber : Solved → ℕ
 solvedNumber (Placed k) = 0
 solvedNumber (Refused r) = numberOf r

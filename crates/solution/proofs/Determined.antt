@@ -1,5 +1,5 @@
 -- Two answers that conform agree in everything but the first places, up to the count: the least count is one number, and where there is one some placement is legal.
-use Prim.Native.Nat.{ℕ, _≤_, _<_}
+use Prim.Native.Nat.{ℕ}
 use mathlib.Core.Path.{_≡_, sym, ap, _∙_}
 use mathlib.Core.List.{List}
 use native.Mathlib.Omega.{arith}
@@ -9,12 +9,11 @@ use Rattle.rules.specs.declared.Judged.{Judged}
 use Rattle.rules.specs.declared.Judged.the-variants as judge
 use Rattle.rules.specs.Net.{Net}
 use Rattle.rules.specs.Judge.{judged}
-use Rattle.rules.specs.Legal.{Legal, Least, NoneLegal}
 use Rattle.frontier.proofs.LeastCount.{one-least}
 use Rattle.columns.proofs.Alike.{Alike, alike-kept, alike-holds}
-use Rattle.solver.specs.declared.Solved.{Solved}
-use Rattle.solver.specs.declared.Solved.the-variants.{Placed, Refused}
-use Rattle.solver.specs.Answer.{Outcome, none, full, placed, Answered, written}
+use Rattle.solution.specs.declared.Solved.{Solved}
+use Rattle.solution.specs.declared.Solved.the-variants.{Placed, Refused}
+use Rattle.solution.specs.Answer.{Outcome, none, full, placed, Answered, written}
 
 module _ {n : Net} {ws os ws₁ os₁ ws₂ os₂ : List ℕ} {r r′ : Solved} where
   both : Outcome n ws os ws₁ os₁ r → Outcome n ws os ws₂ os₂ r′ → Alike r r′ (written r) ws₁ os₁ ws₂ os₂

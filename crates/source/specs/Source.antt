@@ -8,7 +8,7 @@ use Rattle.frontier.specs.Frontier.{State, has, Acc, merge, acc, close, width}
 use Rattle.frontier.specs.Frontier as frontier
 use Rattle.states.specs.States.{st}
 use Rattle.cuts.specs.Choice.{Budgeted}
-use Rattle.solver.specs.declared.Source.{Source}
+use Rattle.source.specs.declared.Source.{Source}
 
 -- the first of two at 0, else the second
 abbrev pub atSense {ℓ} : {A : Type ℓ} → ℕ → A → A → A

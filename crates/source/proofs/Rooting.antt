@@ -1,16 +1,17 @@
 -- The source: its state is the frontier's root, so a count there is the least and a lost state means that no placement is legal; and the walk from it ends in a least placement.
-use Prim.Native.Nat.{ℕ, zero, suc, _+_, _-_, _*_, _≤_, _<_, min, max}
+use Prim.Native.Nat.{ℕ, zero, suc, _-_, _*_, _≤_, _<_, min, max}
 use mathlib.Core.Path.{_≡_, refl, sym, subst, ap, _∙_}
 use mathlib.Core.List.{List}
 use native.Mathlib.Omega.{arith}
-use lib.ListN.{length, getD, set, length-set}
-use lib.Seq.{sets, getD-set-same, getD-set-other}
-use Rattle.rules.specs.Net.{Net, places}
-use Rattle.rules.specs.Tree.{hanging, tree}
+use lib.ListN.{length, set, length-set}
+use lib.Seq.{getD-set-same, getD-set-other}
+use Rattle.rules.specs.declared.Entry.{Entry}
+use Rattle.rules.specs.Net.{Net}
+use Rattle.rules.specs.Tree.{tree}
 use Rattle.rules.specs.Legal.{Legal, Least, NoneLegal}
 use Rattle.rules.specs.Sound.{SoundNet}
 use Rattle.frontier.specs.Cell as model
-use Rattle.frontier.specs.Plan.{planOf, count, Settled}
+use Rattle.frontier.specs.Plan.{planOf, Settled}
 use Rattle.frontier.specs.Frontier.{State, lost, has, Acc, fail, all, merge, acc, close, width}
 use Rattle.frontier.specs.Frontier as frontier
 use Rattle.frontier.specs.Placed.{placed}
@@ -18,18 +19,15 @@ use Rattle.frontier.proofs.Best.{merge-least}
 use Rattle.frontier.proofs.LeastCount.{least-if-has, none-if-lost, placed-is-least}
 use Rattle.states.specs.declared.Cell.{Cell}
 use Rattle.states.specs.States.{modelOf, limitsOf, st, CellOk}
-use Rattle.rows.specs.Rows.{loadAt, accOf}
+use Rattle.states.proofs.Leaves.{model-is}
+use Rattle.rows.specs.Rows.{accOf}
 use Rattle.tables.specs.Tables.{Tables, headOf, manyOf, slotOf, Holds, Filled}
 use Rattle.tables.proofs.Ready.{Fit, fit}
 use Rattle.cuts.specs.Choice.{Under, Budgeted, Budget}
 use Rattle.walk.specs.Walk.{senseAt, leftAt, Alive, offsOf, Walked}
-use Rattle.columns.specs.Columns.{roomIn, Kept, wireColumn, offsetColumn}
-use Rattle.solver.specs.declared.Source.{Source}
-use Rattle.solver.specs.declared.Solved.{Solved}
-use Rattle.solver.specs.declared.Solved.the-variants.{Placed, Refused}
-use Rattle.solver.specs.Answer as answer
-use Rattle.solver.specs.Answer.{Outcome}
-use Rattle.solver.specs.Source.{atSense, Picks, SourceOk, Rooted}
+use Rattle.solution.specs.declared.Solved.the-variants.{Placed}
+use Rattle.source.specs.declared.Source.{Source}
+use Rattle.source.specs.Source.{atSense, Picks, SourceOk, Rooted}
 
 -- ---- which polarity
 pub picks-second : (a b : State) → a ≡ lost → Picks a b 1
@@ -63,10 +61,6 @@ source-budget τ last zero e c₀ c₁ g l b N h h₁ q = b c₀ N h (subst (λ 
 source-budget τ last (suc zero) e c₀ c₁ g l b N h h₁ q = b c₁ N h (subst (λ (s : State). Under s 0 N h) (sym q) (refl, refl))
 source-budget τ last (suc (suc p)) e c₀ c₁ g l b N h h₁ q = absurd (omega arith)
 
--- the code's limits are the model's
-model-is : {c : Cell} → CellOk c → modelOf c ≡ model.cellOf (limitsOf c)
-model-is {c} ok = let e : c .span ≡ c .limit - c .pin = omega (arith, ok .eq) in ap (λ (d : ℕ). record { kind = model.kindOf (c .repeater); cu = c .limit; cb = c .pin; D = d }) e
-
 module _ {c : Cell} (ok : CellOk c) {n : Net} (sound : SoundNet n) (same : limitsOf c ≡ n .limits) where
   cell-is : modelOf c ≡ model.cellOf (n .limits)
   cell-is = model-is ok ∙ ap model.cellOf same
@@ -87,12 +81,9 @@ module _ {c : Cell} (ok : CellOk c) {n : Net} (sound : SoundNet n) (same : limit
       let x = w .settles N (r .load) (r .more) (r .is) (r .budget) in
       placed-is-least sound N (r .a) (r .b) (root-here (r .root)) p (offsOf (modelOf c) n t) (subst (λ (τ : model.Cell). Settled τ p (tree n) (planOf (offsOf (modelOf c) n t) (tree n))) cell-is (x .0)) (x .1)
 
-  pub outcome-placed : {p e N : ℕ} {t ws os ws′ os′ : List ℕ} → Rooted (modelOf c) n p e N → Walked (modelOf c) n p e t → N ≤ roomIn ws os
-      → ws′ ≡ sets ws 0 (wireColumn (placed n (offsOf (modelOf c) n t))) → os′ ≡ sets os 0 (offsetColumn (placed n (offsOf (modelOf c) n t))) → Outcome n ws os ws′ os′ (Placed N)
-  outcome-placed {p} {e} {N} {t} r w h ew eo =
-      let x = walked-least r w in
-      let q : N ≡ length (placed n (offsOf (modelOf c) n t)) = sym (x .1) in
-      answer.placed (placed n (offsOf (modelOf c) n t)) (x .0) (subst (Least n) q (least-there N (r .a) (r .b) (r .root))) (omega arith) (ap Placed q) (record { wires = ew; offsets = eo })
+  -- a legal placement of as many entries as the root counts is least, and has room where that count has
+  pub least-placed : {p e N room : ℕ} {l : List Entry} → Rooted (modelOf c) n p e N → Legal n l × (length l ≡ N) → N ≤ room → Least n (length l) × (length l ≤ room) × (Placed N ≡ Placed (length l))
+  least-placed {p} {e} {N} {room} {l} r x h = let q : N ≡ length l = sym (x .1) in (subst (Least n) q (least-there N (r .a) (r .b) (r .root)), omega arith, ap Placed q)
 
   -- ---- out of the tables
   module _ {t : Tables} (f : Filled (modelOf c) n t 1) where

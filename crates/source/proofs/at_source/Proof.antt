@@ -4,9 +4,9 @@ use lib.ListN.{getD}
 use borrow.Author.Needs.{needs}
 use Rattle.states.specs.States.{modelOf}
 use Rattle.rows.specs.Rows.{loadAt}
-use Rattle.solver.proofs.Rooting.{source-budget}
-use Rattle.solver.proofs.at_source.Statement.{statement}
-use Rattle.solver.proofs.at_source.Tie as tie
+use Rattle.source.proofs.Rooting.{source-budget}
+use Rattle.source.proofs.at_source.Statement.{statement}
+use Rattle.source.proofs.at_source.Tie as tie
 
 returns : tie.Need-returns
 returns c =
