@@ -7,11 +7,11 @@ use lib.ListN.{length}
 use Rattle.rules.specs.declared.Judged.{Judged}
 use Rattle.rules.specs.declared.Judged.the-variants.{Sound, Refused}
 use Rattle.rules.specs.declared.Refusal.{Refusal}
-use Rattle.rules.specs.Net.{Net, places}
+use Rattle.rules.specs.Net.{Net, places, unlimited}
 use Rattle.rules.specs.Load.{entries, offsetsOn, sourceDrives}
 use Rattle.rules.specs.Judge.{judged}
 use Rattle.rules.specs.Sound.{SoundNet}
-use Rattle.net.specs.Counted.{unlimited, Level}
+use Rattle.net.specs.Counted.{Level}
 use Rattle.rules.specs.Checked.{checked}
 use Rattle.rules.specs.Ease.{carried, easeJudged}
 use Rattle.rules.proofs.SoundSays.{sound-says}

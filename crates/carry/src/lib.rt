@@ -7,10 +7,10 @@ use rules::Refusal;
 ghost use mathlib.Core.Path.{_≡_};
 ghost use Prim.Native.Nat.{min};
 ghost use lib.ListN.{length};
-ghost use Rattle.rules.specs.Net.{Net, netAt};
+ghost use Rattle.rules.specs.Net.{Net, netAt, unlimited};
 ghost use Rattle.rules.specs.Load.{entries};
 ghost use Rattle.rules.specs.Sound.{SoundNet};
-ghost use Rattle.net.specs.Counted.{unlimited, Level};
+ghost use Rattle.net.specs.Counted.{Level};
 ghost use Rattle.rules.specs.Ease.{carried, limitsEase, nodeEases, nodesEase, easeJudged};
 ghost use Rattle.carry.specs.Carry.{offsetsOf, CarriedIs, OnWires};
 

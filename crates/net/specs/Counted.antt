@@ -5,17 +5,12 @@ use mathlib.Core.Bool.{Bool}
 use mathlib.Core.List.{List}
 use lib.ListN.{length, getD}
 use lib.Dec.{eqb, ltb, leb}
-use Rattle.rules.specs.declared.Limits.{Limits}
 use Rattle.rules.specs.declared.Judged.{Judged}
 use Rattle.rules.specs.declared.Judged.the-variants.{Sound}
 use Rattle.rules.specs.Figures.{mostPlaces}
 use Rattle.rules.specs.Choose.{both}
 use Rattle.rules.specs.Net.{Net, places}
 use Rattle.rules.specs.Judge.{children, nodesJudged}
-
--- limits, for what is said of the columns alone
-abbrev pub unlimited : Limits
-unlimited = record { limit = 0; pin = 0; repeater = 0 }
 
 abbrev pub sameLengths : ℕ → ℕ → ℕ → ℕ → ℕ → Bool
 sameLengths p w k c q = both (eqb w p) (both (eqb k p) (both (eqb c p) (both (eqb q p) (both (ltb 0 p) (leb p mostPlaces)))))

@@ -10,9 +10,9 @@ ghost use lib.ListN.{length, getD, set};
 ghost use lib.Dec.{eqb, ltb, leb};
 ghost use Rattle.rules.specs.Refusal.{numberOf, placeOf};
 ghost use Rattle.rules.specs.Choose.{both};
-ghost use Rattle.rules.specs.Net.{netAt, node};
+ghost use Rattle.rules.specs.Net.{netAt, node, unlimited};
 ghost use Rattle.rules.specs.Judge.{limitsInRange, sourceClear, endInRange, nodeInRange, parentFits, admitted, hasChild, childedBy, judged};
-ghost use Rattle.net.specs.Counted.{unlimited, sameLengths, Within, Level, Tallied, NodesJudged};
+ghost use Rattle.net.specs.Counted.{sameLengths, Within, Level, Tallied, NodesJudged};
 
 // The number of a refusal (RULES 4.3).
 pub fn number(r: Refusal) -> u32

@@ -6,8 +6,7 @@ use mathlib.Core.Path.{_≡_, sym, ap, _∙_}
 use mathlib.Core.List.{List, [], _∷_}
 use lib.ListN.{length, length-set}
 use Rattle.rules.specs.declared.Node.{Node}
-use Rattle.rules.specs.Net.{Net}
-use Rattle.net.specs.Counted.{unlimited}
+use Rattle.rules.specs.Net.{Net, unlimited}
 use Rattle.field.specs.Listed.{listed}
 use Rattle.field.proofs.Listing.{listed-next, listed-end}
 use Rattle.net_file.specs.NetFile.{columnsOf, room, laidOver}

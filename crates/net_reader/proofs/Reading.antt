@@ -12,8 +12,7 @@ use Rattle.rules.specs.declared.Refusal.{Refusal}
 use Rattle.rules.specs.declared.Refusal.the-variants.{NoRoom}
 use Rattle.rules.proofs.Tests.{never}
 use Rattle.rules.specs.Figures.{mostPlaces}
-use Rattle.rules.specs.Net.{Net, places, node}
-use Rattle.net.specs.Counted.{unlimited}
+use Rattle.rules.specs.Net.{Net, places, node, unlimited}
 use Rattle.net_file.specs.declared.NetRead.{NetRead}
 use Rattle.net_file.specs.declared.NetRead.the-variants.{Read, Refused as NotRead}
 use Rattle.net_file.specs.NetFile.{nodesOf, columnsOf, source, Outcome, read, refused, fieldsOf, netOf, room, laidOver, answered, filled, ReadNet}

@@ -1,8 +1,7 @@
 // A net file, read into five lent columns: RULES 6.6.
 ghost use mathlib.Core.Path.{_≡_};
 ghost use Prim.Native.Nat.{_≤_, min};
-ghost use Rattle.rules.specs.Net.{netAt, node};
-ghost use Rattle.net.specs.Counted.{unlimited};
+ghost use Rattle.rules.specs.Net.{netAt, node, unlimited};
 ghost use Rattle.field.specs.Listed.{listed};
 ghost use Rattle.net_file.specs.NetFile.{columnsOf, room, laidOver, ReadNet};
 use net_file::NetRead;

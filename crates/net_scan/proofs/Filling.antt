@@ -6,8 +6,7 @@ use native.Mathlib.Numerals.{add-one}
 use mathlib.Core.Path.{_≡_, refl, sym, ap, _∙_}
 use mathlib.Core.List.{List, [], _∷_}
 use Rattle.rules.specs.declared.Node.{Node}
-use Rattle.rules.specs.Net.{Net}
-use Rattle.net.specs.Counted.{unlimited}
+use Rattle.rules.specs.Net.{Net, unlimited}
 use Rattle.net_file.specs.declared.Taken.{Taken}
 use Rattle.net_file.specs.declared.Taken.the-variants.{Node as OneNode, End as Last}
 use Rattle.net_file.specs.NetFile.{takenAt, follow, fieldsFrom, nodesOf, columnsOf, laidOver}

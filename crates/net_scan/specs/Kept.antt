@@ -5,8 +5,7 @@ use mathlib.Core.List.{List}
 use lib.ListN.{replicate}
 use Rattle.rules.specs.declared.Limits.{Limits}
 use Rattle.rules.specs.Figures.{mostPlaces}
-use Rattle.rules.specs.Net.{Net, net, places}
-use Rattle.net.specs.Counted.{unlimited}
+use Rattle.rules.specs.Net.{Net, net, places, unlimited}
 use Rattle.net_file.specs.declared.NetRead.{NetRead}
 use Rattle.net_file.specs.declared.NetRead.the-variants.{Read, Refused as NotRead}
 use Rattle.net_file.specs.NetFile.{Outcome, read, refused, nodesOf, columnsOf, fieldsOf, laidOver}

@@ -10,10 +10,10 @@ use Rattle.rules.specs.declared.Limits.{Limits}
 use Rattle.rules.specs.declared.Refusal.{Refusal}
 use Rattle.rules.specs.declared.Refusal.the-variants.{NoRoom}
 use Rattle.rules.specs.declared.Judged.the-variants.{Sound, Refused as Unsound}
-use Rattle.rules.specs.Net.{Net, net}
+use Rattle.rules.specs.Net.{Net, net, unlimited}
 use Rattle.rules.specs.Judge.{judged}
 use Rattle.rules.specs.Sound.{SoundNet}
-use Rattle.net.specs.Counted.{unlimited, Level}
+use Rattle.net.specs.Counted.{Level}
 use Rattle.rules.proofs.SoundSays.{sound-says}
 use Rattle.net_file.specs.declared.NetWrote.the-variants.{Written, Refused as NotWritten}
 use Rattle.net_file.specs.NetFile.{netBytes, WroteNet}

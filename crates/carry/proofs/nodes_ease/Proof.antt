@@ -3,8 +3,7 @@ use Prim.Native.Nat.{_≤_, _-_}
 use native.Mathlib.Omega.{arith}
 use borrow.Author.Tests.{not-true, not-false}
 use lib.ListN.{length}
-use Rattle.rules.specs.Net.{net}
-use Rattle.net.specs.Counted.{unlimited}
+use Rattle.rules.specs.Net.{net, unlimited}
 use Rattle.carry.proofs.Walk.{Easing, easing-start, easing-next, easing-stop, easing-end}
 use Rattle.carry.proofs.nodes_ease.Statement.{statement}
 use Rattle.carry.proofs.nodes_ease.Tie as tie

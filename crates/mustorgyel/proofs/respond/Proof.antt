@@ -7,8 +7,7 @@ use lib.ListN.{length, take, replicate, length-replicate}
 use lib.Seq.{length-take-le}
 use denote.Ref.{now}
 use borrow.Author.Needs.{needs}
-use Rattle.rules.specs.Net.{Net, net}
-use Rattle.net.specs.Counted.{unlimited}
+use Rattle.rules.specs.Net.{Net, net, unlimited}
 use Rattle.field.proofs.Numbers.{AreBytes}
 use Rattle.mustorgyel.specs.Printed.{unread, net as prints-net}
 use Rattle.mustorgyel.proofs.Reading.{Roomy, Holds, found, unread-says, holds}

@@ -5,8 +5,7 @@ use mathlib.Core.Path.{sym, ap}
 use lib.ListN.{length}
 use lib.Seq.{length-sets}
 use borrow.Author.Needs.{needs}
-use Rattle.rules.specs.Net.{Net, net, node}
-use Rattle.net.specs.Counted.{unlimited}
+use Rattle.rules.specs.Net.{Net, net, node, unlimited}
 use Rattle.net_reader.proofs.Copying.{Copying, copy-start, copy-next, copy-end}
 use Rattle.net_reader.proofs.fill.Statement.{statement}
 use Rattle.net_reader.proofs.fill.Tie as tie

@@ -3,8 +3,7 @@ use denote.Ref.{now}
 use native.Mathlib.Omega.{arith}
 use mathlib.Core.Path.{refl}
 use borrow.Author.Needs.{needs}
-use Rattle.rules.specs.Net.{netAt}
-use Rattle.net.specs.Counted.{unlimited}
+use Rattle.rules.specs.Net.{netAt, unlimited}
 use Rattle.net_reader.proofs.Reading.{read-refused, read-few, read-short, read-whole, room-left, room-enough}
 use Rattle.net_reader.proofs.read_net.Statement.{statement}
 use Rattle.net_reader.proofs.read_net.Tie as tie

@@ -4,8 +4,7 @@ use denote.Ref.{now}
 use native.Mathlib.Omega.{arith}
 use mathlib.Core.Path.{sym, ap, _∙_}
 use borrow.Author.Needs.{needs}
-use Rattle.rules.specs.Net.{Net, net}
-use Rattle.net.specs.Counted.{unlimited}
+use Rattle.rules.specs.Net.{Net, net, unlimited}
 use Rattle.net_scan.proofs.Judging.{Judging, start, stop-wrong, stop-end, ends, stop-node, fits, next-node}
 use Rattle.net_scan.proofs.Filling.{Filling, fill-start, fill-next, fill-last}
 use Rattle.net_file.proofs.ReadWrite.{end-inside}

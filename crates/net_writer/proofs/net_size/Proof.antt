@@ -4,8 +4,7 @@ use native.Mathlib.Omega.{arith}
 use mathlib.Core.Path.{refl, ap, _∙_}
 use lib.ListN.{length}
 use borrow.Author.Needs.{needs}
-use Rattle.rules.specs.Net.{net, node}
-use Rattle.net.specs.Counted.{unlimited}
+use Rattle.rules.specs.Net.{net, node, unlimited}
 use Rattle.field.specs.declared.Value.{Value}
 use Rattle.field.specs.Format.{bytesOf}
 use Rattle.net_file.specs.NetFile.{fieldOf}

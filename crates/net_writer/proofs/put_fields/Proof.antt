@@ -6,8 +6,7 @@ use mathlib.Core.Path.{refl, ap, _∙_}
 use lib.ListN.{length}
 use lib.Seq.{length-sets}
 use borrow.Author.Needs.{needs}
-use Rattle.rules.specs.Net.{net, netAt, node}
-use Rattle.net.specs.Counted.{unlimited}
+use Rattle.rules.specs.Net.{net, netAt, node, unlimited}
 use Rattle.field.specs.declared.Value.the-variants.{Limits, End}
 use Rattle.field.specs.Format.{bytesOf}
 use Rattle.field.proofs.Parts.{put-back}
