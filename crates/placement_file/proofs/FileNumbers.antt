@@ -19,8 +19,9 @@ use Rattle.rules.proofs.Each.{each-sound, each-met, first-refused, refused-firs
 use Rattle.field.specs.declared.DueRead.{DueRead}
 use Rattle.field.specs.Format.{dueAt}
 use Rattle.field.proofs.Numbers.{AreBytes}
-use Rattle.field.proofs.ReadNumbers.{Holds, Lacks, DueRow, found, missing, holds-found, lacks-missing, due-seen}
-use Rattle.placement_file.specs.File.{due, entryInRange, owed, countJudged, startOf, entryAt, entryJudged, endJudged, bodyJudged, fileJudged}
+use Rattle.field.proofs.ReadNumbers.{Holds, Lacks, short-header, other-tag, wrong-length, short-body, DueRow, found, missing, holds-found, lacks-missing, due-seen}
+use Rattle.placement_file.specs.File.{due, entryInRange, owed, countJudged, startOf, entryAt, entryJudged, endJudged, bodyJudged, fileJudged, placement, refused, placementOf}
+use Rattle.field.specs.Listed.{listed as entryList}
 
 -- ---- the rows
 
@@ -169,3 +170,26 @@ module _ (s : List ℕ) (by : AreBytes s) where
 
   pub told : Told s
   told = at-count (way s by 17 0 (OutOfRange 0) (leb (owed s) mostEntries))
+
+  -- so a file is refused by 1, 2, 3 or 6
+  lacks-small : {tag at k : ℕ} → Lacks tag s at k → k ≤ 6
+  lacks-small (short-header h e) = omega arith
+  lacks-small (other-tag h n e) = omega arith
+  lacks-small (wrong-length h n e) = omega arith
+  lacks-small (short-body h t l e) = omega arith
+
+  row-small : {k p : ℕ} → FileRow s k p → k ≤ 6
+  row-small (no-count l q) = lacks-small l
+  row-small (many h m e q) = omega arith
+  row-small (no-entry i h u l q) = lacks-small l
+  row-small (range i h u l t e q) = omega arith
+  row-small (no-end u l q) = lacks-small l
+  row-small (more u h m e q) = omega arith
+
+  pub file-number : (x : Refusal) → placementOf s ≡ refused x → numberOf x ≤ 6
+  unfolding placementOf
+  file-number x e = go told
+    where
+      go : Told s → numberOf x ≤ 6
+      go (sound f) = absurd (let z : placement (entryList (entryAt s) (owed s) 0) ≡ refused x = sym (rw f) ∙ e in let w : _≡_ {A = ℕ} 0 1 = cc in omega arith)
+      go (row f) = let r = row-refuses f in let q : r .why ≡ x = (let z : refused (r .why) ≡ refused x = sym (rw (r .is)) ∙ e in cc) in omega (arith, row-small f, r .number, ap numberOf q)

@@ -1,8 +1,9 @@
 -- The numbers of the call from C: it answers k exactly where the cases below say so, and so no other number. Its columns always fit and its net is always sound,
 -- so of the checker's numbers it gives those of a placement alone.
-use Prim.Native.Nat.{ℕ}
+use Prim.Native.Nat.{ℕ, _≤_}
+use native.Mathlib.Omega.{arith}
 use mathlib.Core.Path.{_≡_, refl, sym, _∙_}
-use mathlib.Core.Logic.{_↔_}
+use mathlib.Core.Logic.{_↔_, _⊎_, inl, inr}
 use mathlib.Core.List.{List, map}
 use lib.ListN.{length-map}
 use Rattle.rules.specs.declared.Entry.{Entry}
@@ -13,13 +14,15 @@ use Rattle.rules.specs.Net.{Net}
 use Rattle.rules.specs.Judge.{judged}
 use Rattle.rules.specs.Checked.{checked}
 use Rattle.rules.proofs.Judging.{sound-refused, exactly-where}
-use Rattle.rules.proofs.Numbers.{PlacementGives, PlacementFits}
+use Rattle.rules.proofs.Numbers.{PlacementGives, misplaced, overloaded, wrong-parity, legal, PlacementFits}
 use Rattle.field.proofs.Numbers.{AreBytes}
 use Rattle.net_file.specs.NetFile as net_file
 use Rattle.net_file.proofs.ReadWrite.{same-bytes}
+use Rattle.net_file.proofs.FileNumbers.{file-number as net-number}
 use Rattle.placement_file.specs.File as placement_file
 use Rattle.placement_file.specs.File.{wire, offset}
 use Rattle.placement_file.proofs.RoundTrip.{entries-back}
+use Rattle.placement_file.proofs.FileNumbers.{file-number as placement-number}
 use Rattle.checker.proofs.Numbers.{CheckGives, of-net, wrong-columns, of-placement, checked-numbers}
 use Rattle.router.specs.Routed.{onNet, fromNet, routed}
 use Rattle.router.proofs.Routing.{few-entries}
@@ -71,3 +74,12 @@ module _ (net placement : List ℕ) (bytes : AreBytes net) where
   pub mustorgyel-check-numbers : (r : ℕ) → r ≡ routed net placement → (k : ℕ) → (r ≡ k) ↔ RouteGives net placement k
   unfolding routed
   mustorgyel-check-numbers r e k = rw e (exactly-where (RouteGives net placement) (fromNet (net_file.netOf net) (placement_file.placementOf placement)) given alone k)
+
+  -- so it never gives 7, 8, 9 or 13 (RULES 5.14)
+  pub mustorgyel-check-only : AreBytes placement → (k : ℕ) → RouteGives net placement k → (k ≤ 6) ⊎ ((10 ≤ k) × (k ≤ 12))
+  mustorgyel-check-only also k (of-net-file {x} a e) = inl (omega (arith, net-number net x a))
+  mustorgyel-check-only also k (of-placement-file {n} {x} a b e) = inl (omega (arith, placement-number placement also x b))
+  mustorgyel-check-only also k (of-both a b (misplaced e not)) = inr (omega arith, omega arith)
+  mustorgyel-check-only also k (of-both a b (overloaded e o not)) = inr (omega arith, omega arith)
+  mustorgyel-check-only also k (of-both a b (wrong-parity e o w not)) = inr (omega arith, omega arith)
+  mustorgyel-check-only also k (of-both a b (legal e l)) = inl (omega arith)
