@@ -7,6 +7,7 @@ use mathlib.Core.List.{List, [], _∷_, _++_}
 use lib.ListN.{length, length-append}
 use lib.Seq.{sets}
 use borrow.Author.Tests.{eq-eqb, le-leb}
+use Rattle.rules.specs.declared.Refusal.{Refusal}
 use Rattle.rules.specs.declared.Judged.{Judged}
 use Rattle.rules.specs.declared.Judged.the-variants.{Sound}
 use Rattle.rules.specs.Figures.{mostEntries}
@@ -20,7 +21,7 @@ use Rattle.rules.specs.Load.{drivers, sourceDrives}
 use Rattle.rules.proofs.Tests.{then-met}
 use Rattle.rules.proofs.Order.{entries-counted}
 use Rattle.listing.specs.declared.Listed.{Listed}
-use Rattle.listing.specs.declared.Listed.the-variants.{Driven}
+use Rattle.listing.specs.declared.Listed.the-variants.{Driven, Refused}
 use Rattle.listing.specs.Listing.{listJudged, ListedIs}
 use Rattle.rules.proofs.LegalJudged.{legal-judged}
 use Rattle.standing.proofs.Walk.{entries-length}
@@ -56,3 +57,13 @@ as-many-loads {n} {ws} {os} g =
 pub drives-listed : {n : Net} {ws os before after : List ℕ} {r : Listed} → Given n ws os → ListedIs n ws os before r after → mostEntries ≤ length before
     → (r ≡ Driven (length ws) (sourceDrives n (offsetsOn (entries ws os)))) × (after ≡ sets before 0 (driven n (offsetsOn (entries ws os))))
 drives-listed {n} {ws} {os} {before} g l h = let e = listed (length before) g h in (rw e at (l .answer), rw e at (l .column))
+
+-- an answer that lists: its two numbers, and that it is no refusal
+pub listed-count : {j : Listed} {k s k′ s′ : ℕ} → j ≡ Driven k s → j ≡ Driven k′ s′ → k′ ≡ k
+listed-count p q = cc
+
+pub listed-source : {j : Listed} {k s k′ s′ : ℕ} → j ≡ Driven k s → j ≡ Driven k′ s′ → s′ ≡ s
+listed-source p q = cc
+
+pub listed-refused : {A : Type 0} {j : Listed} {k s : ℕ} {r : Refusal} → j ≡ Driven k s → j ≡ Refused r → A
+listed-refused p q = absurd (let z : _≡_ {A = ℕ} 0 1 = cc in omega arith)

@@ -1,7 +1,7 @@
 -- `put` lays the bytes: after i turns the first i of them are laid.
 use Prim.Native.Nat.{_≤_, _-_}
 use native.Mathlib.Omega.{arith}
-use mathlib.Core.Path.{_≡_, refl}
+use mathlib.Core.Path.{_≡_, refl, ap, _∙_}
 use lib.ListN.{length, take, length-set}
 use lib.Seq.{sets, take-all}
 use denote.Ref.{now}
@@ -20,13 +20,13 @@ loop-again : tie.Need-loop-again Inv-loop μ-loop
 loop-again c =
     let m = c .before .before in
     let h = one-more (now (m .before .args .out)) (now (m .before .args .bytes)) (m .before .args .at) (m .loop .i) (search needs) in
-    (search needs, simp length-set (omega arith), cc)
+    (search needs, simp length-set (omega arith), rw (m .loop .inv .2) h)
 
 returns : tie.Need-returns Inv-loop μ-loop
 returns c =
     let m = c .before in
     let h = take-all (m .loop .i) (now (m .before .args .bytes)) (search needs) in
-    record { ends = search needs; stands = cc }
+    record { ends = search needs; stands = m .loop .inv .2 ∙ ap (sets (now (m .before .args .out)) (m .before .args .at)) h }
 
 pub put-spec : {M : Type 1} → statement M
 put-spec =

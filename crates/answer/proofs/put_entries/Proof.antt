@@ -54,7 +54,7 @@ returns c =
     let w = take-all (m .loop .k) (now (a .args .wires)) (omega arith) in
     let o = take-all (m .loop .k) (now (a .args .offsets)) (omega arith) in
     let l = take-all (m .loop .k) (now (a .args .loads)) (omega arith) in
-    (laid-as (cc) (m .loop .inv .3), omega arith)
+    (laid-as (rw (w, o, l)) (m .loop .inv .3), omega arith)
 
 pub put-entries-spec : {M : Type 1} → statement M
 put-entries-spec =

@@ -13,7 +13,7 @@ use Rattle.listing.specs.declared.Listed.the-variants.{Driven}
 use Rattle.answer.specs.Text.{answerText}
 use Rattle.answer.proofs.Laying.{laid-as}
 use Rattle.mustorgyel.proofs.Showing.{shown, front-of}
-use Rattle.mustorgyel.proofs.Listing.{drives-listed, as-many-loads}
+use Rattle.mustorgyel.proofs.Listing.{drives-listed, as-many-loads, listed-count, listed-source, listed-refused}
 use Rattle.mustorgyel.proofs.tell.Statement.{statement}
 use Rattle.mustorgyel.proofs.tell.Tie as tie
 
@@ -39,10 +39,7 @@ heard : (c : tie.After-list-drives) → (c .list-drives .result ≡ Driven (leng
 heard c = drives-listed (start c .pre .0) (c .list-drives .ensures) (omega (arith, length-replicate {A = ℕ} 4096 0))
 
 returns : tie.Need-returns
-returns c =
-    let h = heard (c .before .before .before) .0 in
-    let g = c .enum-told .given .1 in
-    absurd (let z : _≡_ {A = ℕ} 0 1 = cc in omega arith)
+returns c = listed-refused (heard (c .before .before .before) .0) (c .enum-told .given .1)
 
 -- ---- where the loads are listed
 
@@ -50,10 +47,10 @@ abbrev first : tie.After-listed → tie.Start
 first c = start (c .before .before .before)
 
 counted : (c : tie.After-listed) → c .listed .given .0 .0 ≡ length (W (first c))
-counted c = let h = heard (c .before .before .before) .0 in let g = c .listed .given .1 in cc
+counted c = listed-count (heard (c .before .before .before) .0) (c .listed .given .1)
 
 summed : (c : tie.After-listed) → c .listed .given .0 .1 .0 ≡ source (first c)
-summed c = let h = heard (c .before .before .before) .0 in let g = c .listed .given .1 in cc
+summed c = listed-source (heard (c .before .before .before) .0) (c .listed .given .1)
 
 room : (c : tie.After-listed) → length (c .before .before .before .list-drives .last .1 .1 .1 .1 .1 .1 .1 .1 .0) ≡ 4096
 room c = ap length (heard (c .before .before .before) .1) ∙ length-sets (replicate 4096 0) 0 (loads (first c)) ∙ length-replicate {A = ℕ} 4096 0
