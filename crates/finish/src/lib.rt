@@ -57,7 +57,7 @@ fn place(
 }
 
 // A net that is sound, of buffers, with given entries that stand on it: the way up, then 8, then 9, then the entries.
-fn finish_sound(
+pub fn finish_sound(
     c: Cell,
     parent: &[u16],
     wire: &[u32],

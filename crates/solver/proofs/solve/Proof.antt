@@ -1,5 +1,5 @@
--- The judge's refusal is handed on; of a sound net the answer is the inner one's.
-use mathlib.Core.Path.{sym, subst, _∙_}
+-- The judge's refusal is handed on; of a sound net the answer is the inner one's, of either type.
+use mathlib.Core.Path.{sym, subst, ap, _∙_}
 use borrow.Author.Needs.{needs}
 use Rattle.rules.specs.declared.Limits.{Limits}
 use Rattle.rules.specs.Net.{netAt}
@@ -24,8 +24,12 @@ enum-told c = search needs
 cell-from-requires : tie.Need-cell-from-requires
 cell-from-requires c κs = let s = c .before .before .before .before .before .before .before .before .before .before .args in let sound = sound-says (netAt (s .limits) (s .parent) (s .wire) (s .kind) (s .pin) (s .polarity)) (sym (c .before .before .judge .ensures) ∙ c .enum-told .given .1) in (sound .half, sound .limit-most, sound .repeater-most)
 
-solve-sound-requires : tie.Need-solve-sound-requires
-solve-sound-requires c κs = let s = c .before .before .before .before .before .before .before .before .before .before .before .before .before .args in let sound = sound-says (netAt (s .limits) (s .parent) (s .wire) (s .kind) (s .pin) (s .polarity)) (sym (c .before .before .before .before .before .judge .ensures) ∙ c .before .before .before .enum-told .given .1) in let e = c .before .before .cell-from .ensures in (e .2, subst (λ (l : Limits). SoundNet (netAt l (s .parent) (s .wire) (s .kind) (s .pin) (s .polarity))) (sym (e .1)) sound)
+solve-buffers-requires : tie.Need-solve-buffers-requires
+solve-buffers-requires c κs =
+    let s = c .before .before .before .before .before .before .before .before .before .before .before .before .before .before .args in
+    let sound = sound-says (netAt (s .limits) (s .parent) (s .wire) (s .kind) (s .pin) (s .polarity)) (sym (c .before .before .before .before .before .before .judge .ensures) ∙ c .before .before .before .before .enum-told .given .1) in
+    let e = c .before .before .before .cell-from .ensures in
+    (e .2, subst (λ (l : Limits). SoundNet (netAt l (s .parent) (s .wire) (s .kind) (s .pin) (s .polarity))) (sym (e .1)) sound, ap (λ (l : Limits). l .repeater) (e .1) ∙ c .before .before .if1 .taken)
 
 same-length : tie.Need-same-length
 same-length c = search needs
@@ -34,7 +38,23 @@ same-length-2 : tie.Need-same-length-2
 same-length-2 c = search needs
 
 returns-2 : tie.Need-returns-2
-returns-2 c = answered (c .before .before .before .before .before .before .before .cell-from .ensures .1) (sym (c .before .before .before .before .before .before .before .before .before .before .judge .ensures) ∙ c .before .before .before .before .before .before .before .before .enum-told .given .1) (c .before .before .before .before .solve-sound .ensures)
+returns-2 c = answered (c .before .before .before .before .before .before .before .before .cell-from .ensures .1) (sym (c .before .before .before .before .before .before .before .before .before .before .before .judge .ensures) ∙ c .before .before .before .before .before .before .before .before .before .enum-told .given .1) (c .before .before .before .before .solve-buffers .ensures)
+
+solve-sound-requires : tie.Need-solve-sound-requires
+solve-sound-requires c κs =
+    let s = c .before .before .before .before .before .before .before .before .before .before .before .before .before .before .args in
+    let sound = sound-says (netAt (s .limits) (s .parent) (s .wire) (s .kind) (s .pin) (s .polarity)) (sym (c .before .before .before .before .before .before .judge .ensures) ∙ c .before .before .before .before .enum-told .given .1) in
+    let e = c .before .before .before .cell-from .ensures in
+    (e .2, subst (λ (l : Limits). SoundNet (netAt l (s .parent) (s .wire) (s .kind) (s .pin) (s .polarity))) (sym (e .1)) sound)
+
+same-length-3 : tie.Need-same-length-3
+same-length-3 c = search needs
+
+same-length-4 : tie.Need-same-length-4
+same-length-4 c = search needs
+
+returns-3 : tie.Need-returns-3
+returns-3 c = answered (c .before .before .before .before .before .before .before .before .cell-from .ensures .1) (sym (c .before .before .before .before .before .before .before .before .before .before .before .judge .ensures) ∙ c .before .before .before .before .before .before .before .before .before .enum-told .given .1) (c .before .before .before .before .solve-sound .ensures)
 
 pub solve-spec : {M : Type 1} → statement M
 solve-spec =
@@ -45,7 +65,11 @@ solve-spec =
     returns
     enum-told
     cell-from-requires
-    solve-sound-requires
+    solve-buffers-requires
     same-length
     same-length-2
-    returns-2)
+    returns-2
+    solve-sound-requires
+    same-length-3
+    same-length-4
+    returns-3)
