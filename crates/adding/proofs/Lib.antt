@@ -1,3 +1,4 @@
 pub mod Walking
 pub mod Storing
 pub mod Summing
+pub mod Marking

@@ -56,6 +56,28 @@ module _ (τ : Cell) (eq : τ.cu ≡ τ.cb + τ.D) (pos : 1 ≤ τ.D) where
 pub top-stored : (w i to k : ℕ) {a b a′ b′ : List ℕ} → a′ ≡ sets a to (replicate k i) → b′ ≡ sets b to (steps w 0 w k) → Stores (replicate k w) i to a b a′ b′
 top-stored w i to k {a} {b} ea eb = record { wires-are = ea ∙ ap (λ (j : ℕ). sets a to (replicate j i)) (sym (length-replicate {A = ℕ} k w)); offs-are = eb ∙ ap (sets b to) (steps-still w k) }
 
+-- both: all of a wire from `at` on, where `load` hangs and nothing is given above
+module _ (τ : Cell) (eq : τ.cu ≡ τ.cb + τ.D) (pos : 1 ≤ τ.D) (w k at load : ℕ) where
+  abbrev piece : List ℕ
+  piece = spread τ w at load (ceil τ ((w - at) + load))
+
+  pub above-long : length (addedFrom τ w k at load []) ≡ ceil τ ((w - at) + load) + k
+  unfolding addedFrom
+  above-long = length-append piece (replicate k w) ∙ omega (arith, spread-length τ eq pos w at load (ceil τ ((w - at) + load)), length-replicate {A = ℕ} k w)
+
+  module _ {to : ℕ} {a b : List ℕ} (r : Room (addedFrom τ w k at load []) to a b) where
+    pub room-piece : Room (spread τ w at load (ceil τ ((w - at) + load))) to a b
+    room-piece = let n = spread-length τ eq pos w at load (ceil τ ((w - at) + load)) in record { in-wires = omega (arith, r .in-wires, above-long); in-offs = omega (arith, r .in-offs, above-long) }
+
+    pub room-top : {i : ℕ} {a′ b′ : List ℕ} (next : ℕ) → next ≡ to + ceil τ ((w - at) + load) → Stores (spread τ w at load (ceil τ ((w - at) + load))) i to a b a′ b′ → (next + k ≤ length a′) × (next + k ≤ length b′)
+    room-top next en s = let (l, m) = stores-long s in (omega (arith, r .in-wires, above-long), omega (arith, r .in-offs, above-long))
+
+  pub above-stored : {i to : ℕ} {a b a′ b′ a″ b″ : List ℕ} (next : ℕ) → next ≡ to + ceil τ ((w - at) + load) → Stores (spread τ w at load (ceil τ ((w - at) + load))) i to a b a′ b′ → Stores (replicate k w) i next a′ b′ a″ b″
+      → (next + k ≡ to + length (addedFrom τ w k at load [])) × Stores (addedFrom τ w k at load []) i to a b a″ b″
+  unfolding addedFrom
+  above-stored {to = to} next en s t =
+      (omega (arith, above-long), stores-both (en ∙ ap (λ (j : ℕ). to + j) (sym (spread-length τ eq pos w at load (ceil τ ((w - at) + load))))) s t)
+
 -- ---- the given entries of one wire passed and what is added below them written
 pub record Writing (τ : Cell) (ws os : List ℕ) (first : ℕ) (x : Wire) (to : ℕ) (wires₀ offs₀ : List ℕ) (e k at load : ℕ) (wires offs done : List ℕ) : Type 0 where
   pub walking : Walking τ ws os first x to e k at load done
@@ -95,43 +117,26 @@ module _ {τ : Cell} {ws os : List ℕ} {first : ℕ} {x : Wire} {to : ℕ} {wir
     pub wrote-other : e < length ws → (getD ws e 0 ≡ x .number → ⊥) → Wrote τ ws os first x to (record { next = e; to = k; at = at; load = load }) wires₀ offs₀ wires offs
     wrote-other h ne = (done, passed-other eq pos small b (g .walking) h ne, g .stores)
 
--- ---- and the uppermost piece, with the top
+-- ---- and what is above the last of them
 module _ {τ : Cell} {ws os : List ℕ} {e : ℕ} {x : Wire} {to : ℕ} {p : Walked} {done : List ℕ} (eq : τ.cu ≡ τ.cb + τ.D) (pos : 1 ≤ τ.D) (g : Passed τ ws os e x to p done) where
-  abbrev top : List ℕ
-  top = spread τ (x .size) (p .at) (p .load) (ceil τ ((x .size - p .at) + p .load))
+  whole-is : whole τ ws os e x ≡ done ++ addedFrom τ (x .size) (x .top) (p .at) (p .load) []
+  whole-is = g .through .left (x .size) (x .top) ∙ ap (λ (gs : List ℕ). done ++ addedFrom τ (x .size) (x .top) (p .at) (p .load) gs) (g .clear)
 
-  pub whole-is : whole τ ws os e x ≡ (done ++ spread τ (x .size) (p .at) (p .load) (ceil τ ((x .size - p .at) + p .load))) ++ replicate (x .top) (x .size)
-  unfolding addedFrom
-  whole-is =
-      g .through .left (x .size) (x .top) ∙ ap (λ (gs : List ℕ). done ++ addedFrom τ (x .size) (x .top) (p .at) (p .load) gs) (g .clear)
-      ∙ sym (mathlib.Core.List.append-assoc done top (replicate (x .top) (x .size)))
+  whole-both : length (whole τ ws os e x) ≡ length done + length (addedFrom τ (x .size) (x .top) (p .at) (p .load) [])
+  whole-both = ap length whole-is ∙ length-append done (addedFrom τ (x .size) (x .top) (p .at) (p .load) [])
 
   pub whole-long : length (whole τ ws os e x) ≡ (length done + ceil τ ((x .size - p .at) + p .load)) + x .top
-  whole-long =
-      ap length whole-is ∙ length-append (done ++ top) (replicate (x .top) (x .size))
-      ∙ omega (arith, length-append done top, spread-length τ eq pos (x .size) (p .at) (p .load) (ceil τ ((x .size - p .at) + p .load)), length-replicate {A = ℕ} (x .top) (x .size))
+  whole-long = omega (arith, whole-both, above-long τ eq pos (x .size) (x .top) (p .at) (p .load))
 
   -- there is room for it
-  pub room-top : {a b a′ b′ : List ℕ} → Room (whole τ ws os e x) to a b → Stores done (x .number) to a b a′ b′ → Room (spread τ (x .size) (p .at) (p .load) (ceil τ ((x .size - p .at) + p .load))) (p .to) a′ b′
-  room-top r s =
-      let (l, m) = stores-long s in
-      let n = spread-length τ eq pos (x .size) (p .at) (p .load) (ceil τ ((x .size - p .at) + p .load)) in
-      record { in-wires = omega (arith, r .in-wires, whole-long, g .to); in-offs = omega (arith, r .in-offs, whole-long, g .to) }
+  pub room-above : {a b a′ b′ : List ℕ} → Room (whole τ ws os e x) to a b → Stores done (x .number) to a b a′ b′ → Room (addedFrom τ (x .size) (x .top) (p .at) (p .load) []) (p .to) a′ b′
+  room-above r s = let (l, m) = stores-long s in record { in-wires = omega (arith, r .in-wires, whole-both, g .to); in-offs = omega (arith, r .in-offs, whole-both, g .to) }
 
-  pub room-end : {a b a′ b′ a″ b″ : List ℕ} → Room (whole τ ws os e x) to a b → Stores done (x .number) to a b a′ b′ → Stores (spread τ (x .size) (p .at) (p .load) (ceil τ ((x .size - p .at) + p .load))) (x .number) (p .to) a′ b′ a″ b″
-      → (next : ℕ) → next ≡ p .to + ceil τ ((x .size - p .at) + p .load) → (next + x .top ≤ length a″) × (next + x .top ≤ length b″)
-  room-end r s t next en =
-      let (l, m) = stores-long s in
-      let (l′, m′) = stores-long t in
-      (omega (arith, r .in-wires, whole-long, g .to), omega (arith, r .in-offs, whole-long, g .to))
-
-  pub wrote : {r : Walked} {a b a′ b′ a″ b″ a‴ b‴ : List ℕ} → Stores done (x .number) to a b a′ b′ → Stores (spread τ (x .size) (p .at) (p .load) (ceil τ ((x .size - p .at) + p .load))) (x .number) (p .to) a′ b′ a″ b″
-      → (next : ℕ) → next ≡ p .to + ceil τ ((x .size - p .at) + p .load) → Stores (replicate (x .top) (x .size)) (x .number) next a″ b″ a‴ b‴ → r .to ≡ next + x .top → r .next ≡ p .next → WroteAll τ ws os e x to r a b a‴ b‴
-  wrote {r} {a} {b} {a‴ = a‴} {b‴ = b‴} s t next en u er ex =
-      let n : length (done ++ top) ≡ length done + ceil τ ((x .size - p .at) + p .load) = length-append done top ∙ ap (λ (k : ℕ). length done + k) (spread-length τ eq pos (x .size) (p .at) (p .load) (ceil τ ((x .size - p .at) + p .load))) in
-      record {
-        to = omega (arith, g .to, whole-long);
-        next = ap (from ws os) ex ∙ g .next;
-        within = omega (arith, g .within);
-        stores = subst (λ (vs : List ℕ). Stores vs (x .number) to a b a‴ b‴) (sym whole-is) (stores-both (omega (arith, g .to)) (stores-both (g .to) s t) u);
-      }
+  pub wrote : {r : Walked} {a b a′ b′ a″ b″ : List ℕ} → Stores done (x .number) to a b a′ b′ → Stores (addedFrom τ (x .size) (x .top) (p .at) (p .load) []) (x .number) (p .to) a′ b′ a″ b″
+      → r .to ≡ p .to + length (addedFrom τ (x .size) (x .top) (p .at) (p .load) []) → r .next ≡ p .next → WroteAll τ ws os e x to r a b a″ b″
+  wrote {r} {a} {b} {a″ = a″} {b″} s t er ex = record {
+    to = omega (arith, g .to, whole-both);
+    next = ap (from ws os) ex ∙ g .next;
+    within = omega (arith, g .within);
+    stores = subst (λ (vs : List ℕ). Stores vs (x .number) to a b a″ b″) (sym whole-is) (stores-both (g .to) s t);
+  }

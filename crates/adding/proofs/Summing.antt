@@ -1,8 +1,9 @@
 -- All the wires: the given entries are passed wire by wire, and what is left decides how many are added and which.
-use Prim.Native.Nat.{ℕ, suc, _+_, _-_, _*_, _≤_, _<_}
+use Prim.Native.Nat.{ℕ, zero, suc, _+_, _-_, _*_, _≤_, _<_}
 use mathlib.Core.Path.{_≡_, refl, sym, subst, ap, _∙_}
-use mathlib.Core.List.{List}
+use mathlib.Core.List.{List, [], _∷_, _++_, append-nil}
 use lib.ListN.{length, length-append}
+use lib.Seq.{sets}
 use native.Mathlib.Omega.{arith}
 use Rattle.rules.specs.declared.Entry.{Entry}
 use Rattle.rules.specs.Load.{entries, offsetsOn}
@@ -10,8 +11,8 @@ use Rattle.rules.specs.Figures.{mostLimit}
 use Rattle.frontier.specs.Cell.{Cell}
 use Rattle.frontier.specs.Frontier.{ceil}
 use Rattle.frontier.specs.Placed.{onWire, onWires}
-use Rattle.columns.specs.Columns.{Holds}
-use Rattle.columns.proofs.Listing.{on-length, Listing, listing-none, listing-room, listing-more, listing-all, wires-long, offsets-long}
+use Rattle.columns.specs.Columns.{wireColumn, offsetColumn, Holds}
+use Rattle.columns.proofs.Listing.{on-length, Listing, listing-none, listing-room, listing-more, wires-long, offsets-long}
 use Rattle.relief.specs.Pieces.{mostPiece, addedFrom}
 use Rattle.relief.specs.Runs.{from, Sorted, past}
 use Rattle.relief.proofs.Runs.{past-sorted, past-offsets}
@@ -20,6 +21,10 @@ use Rattle.adding.specs.declared.Walked.{Walked}
 use Rattle.adding.specs.Walks.{addedOn, allAdded, Ready, IsWire, Begins, Passed, WroteAll, Room}
 use Rattle.adding.proofs.Walking.{ceil-few, low}
 use Rattle.adding.proofs.Storing.{whole, whole-long}
+
+none-long : (p : List Entry) → length p ≤ 0 → p ≡ []
+none-long [] h = refl
+none-long (e ∷ p) h = absurd (omega arith)
 
 -- the entries from e on are those of the wires from i on
 pub record Lined (ws os : List ℕ) (i e : ℕ) : Type 0 where
@@ -126,5 +131,21 @@ module _ {τ : Cell} {sizes below on ws os : List ℕ} (ready : Ready τ sizes b
               (w .stores .wires-are ∙ (λ ι. lib.Seq.sets wires to (lib.ListN.replicate (length (q ι)) (is .number ι)))) (w .stores .offs-are ∙ ap (lib.Seq.sets offs to) q);
         }
 
-  pub written-end : {wires₀ offs₀ : List ℕ} {i e to : ℕ} {wires offs : List ℕ} → Written wires₀ offs₀ i e to wires offs → length sizes ≤ i → Holds (allAdded τ sizes below on (entries ws os)) wires₀ offs₀ wires offs
-  written-end g h = let (a, b) = listing-all (g .listing) h in record { wires = a; offsets = b }
+  module _ {wires₀ offs₀ : List ℕ} {i e to : ℕ} {wires offs : List ℕ} (g : Written wires₀ offs₀ i e to wires offs) where
+    all-long : length (allAdded τ sizes below on (entries ws os)) ≡ to + length (onWires A (length sizes - i) i)
+    all-long = ap length (g .listing .all) ∙ length-append (g .listing .done) (onWires A (length sizes - i) i) ∙ ap (λ (k : ℕ). k + length (onWires A (length sizes - i) i)) (g .listing .long)
+
+    -- while some are left so is a wire
+    pub wire-left : to < length (allAdded τ sizes below on (entries ws os)) → i < length sizes
+    unfolding onWires
+    wire-left h = go (length sizes - i) refl
+      where
+        go : (k : ℕ) → length sizes - i ≡ k → i < length sizes
+        go zero z = let l = all-long in absurd (omega (arith, rw z at l))
+        go (suc k) z = omega arith
+
+    pub written-end : length (allAdded τ sizes below on (entries ws os)) ≤ to → Holds (allAdded τ sizes below on (entries ws os)) wires₀ offs₀ wires offs
+    written-end h =
+        let z : onWires A (length sizes - i) i ≡ [] = none-long (onWires A (length sizes - i) i) (omega (arith, all-long)) in
+        let q : allAdded τ sizes below on (entries ws os) ≡ g .listing .done = g .listing .all ∙ ap (λ (p : List Entry). g .listing .done ++ p) z ∙ append-nil (g .listing .done) in
+        record { wires = g .listing .wires ∙ ap (λ (p : List Entry). sets wires₀ 0 (wireColumn p)) (sym q); offsets = g .listing .offsets ∙ ap (λ (p : List Entry). sets offs₀ 0 (offsetColumn p)) (sym q) }

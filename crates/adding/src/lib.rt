@@ -1,7 +1,8 @@
 // The entries that are added to the given ones, counted and written wire after wire beside them.
 use states::Cell;
 ghost use mathlib.Core.Path.{_≡_};
-ghost use Prim.Native.Nat.{ℕ, _+_, _-_, _≤_, _<_};
+ghost use mathlib.Core.List.{[]};
+ghost use Prim.Native.Nat.{_+_, _-_, _≤_, _<_};
 ghost use lib.ListN.{length};
 ghost use Rattle.rules.specs.Figures.{mostWire, mostPlaces};
 ghost use Rattle.rules.specs.Load.{entries, offsetsOn};
@@ -30,7 +31,7 @@ pub struct Walked {
     pub load: u64,
 }
 
-fn wire_at(wire: &[u32], below: &[u32], on: &[u8], i: usize) -> Wire
+pub fn wire_at(wire: &[u32], below: &[u32], on: &[u8], i: usize) -> Wire
     requires { ⌜ (i < mostPlaces) × (i < length (now wire)) × (i < length (now below)) × (i < length (now on)) ⌝ }
     ensures { λ x. ⌜ IsWire (now (wire .entry)) (now (below .entry)) (now (on .entry)) i x ⌝ }
 {
@@ -47,7 +48,7 @@ fn wire_at(wire: &[u32], below: &[u32], on: &[u8], i: usize) -> Wire
 }
 
 // How many buffers a piece of wire takes, v its size and what hangs below it.
-fn takes(c: Cell, v: u64) -> usize
+pub fn takes(c: Cell, v: u64) -> usize
     requires { ⌜ CellOk c × (v ≤ mostPiece) ⌝ }
     ensures { λ r. ⌜ (r ≡ Frontier.ceil (modelOf c) v) × (r ≤ mostPiece) ⌝ }
 {
@@ -182,6 +183,25 @@ fn write_given(
     }
 }
 
+// The entries of wire x from `at` on, where `load` hangs and nothing is given above, with those at its upper end. Answers the place after them.
+pub fn write_above(
+    c: Cell,
+    x: Wire,
+    wires: &mut [u16],
+    offs: &mut [u32],
+    to: usize,
+    at: u64,
+    load: u64,
+) -> usize
+    requires { ⌜ CellOk c × (at ≤ x .size) × (x .size ≤ mostWire) × (load ≤ c .limit) ⌝ }
+    requires { ⌜ Room (addedFrom (modelOf c) (x .size) (x .top) at load []) to (now wires) (now offs) ⌝ }
+    ensures { λ r. ⌜ (r ≡ to + length (addedFrom (modelOf c) (x .size) (x .top) at load [])) × Stores (addedFrom (modelOf c) (x .size) (x .top) at load []) (x .number) to (now (wires .entry)) (now (offs .entry)) (now (wires .exit)) (now (offs .exit)) ⌝ }
+{
+    let next = write_piece(c, wires, offs, to, x.number, x.size, at, load);
+    columns::write_spaced(wires, offs, next, x.number, x.size, x.size, 0, x.top);
+    next + x.top
+}
+
 // All that is added to wire x, whose given entries stand from entry `from` on.
 fn write_wire(
     c: Cell,
@@ -198,9 +218,7 @@ fn write_wire(
     ensures { λ r. ⌜ WroteAll (modelOf c) (now (given .entry)) (now (offsets .entry)) from x to r (now (wires .entry)) (now (offs .entry)) (now (wires .exit)) (now (offs .exit)) ⌝ }
 {
     let p = write_given(c, x, given, offsets, wires, offs, from, to);
-    let next = write_piece(c, wires, offs, p.to, x.number, x.size, p.at, p.load);
-    columns::write_spaced(wires, offs, next, x.number, x.size, x.size, 0, x.top);
-    let end = next + x.top;
+    let end = write_above(c, x, wires, offs, p.to, p.at, p.load);
     Walked {
         next: p.next,
         to: end,
@@ -209,7 +227,7 @@ fn write_wire(
     }
 }
 
-// All entries that are added, in list order, into the first places of the lent columns.
+// All m entries that are added, in list order, into the first places of the lent columns.
 pub fn write_all(
     c: Cell,
     wire: &[u32],
@@ -219,15 +237,16 @@ pub fn write_all(
     offsets: &[u32],
     wires: &mut [u16],
     offs: &mut [u32],
+    m: usize,
 )
     requires { ⌜ CellOk c × Ready (modelOf c) (now wire) (now below) (now on) (now given) (now offsets) ⌝ }
-    requires { ⌜ (length (allAdded (modelOf c) (now wire) (now below) (now on) (entries (now given) (now offsets))) ≤ length (now wires)) × (length (allAdded (modelOf c) (now wire) (now below) (now on) (entries (now given) (now offsets))) ≤ length (now offs)) ⌝ }
+    requires { ⌜ (m ≡ length (allAdded (modelOf c) (now wire) (now below) (now on) (entries (now given) (now offsets)))) × (m ≤ length (now wires)) × (m ≤ length (now offs)) ⌝ }
     ensures { λ r. ⌜ Holds (allAdded (modelOf c) (now (wire .entry)) (now (below .entry)) (now (on .entry)) (entries (now (given .entry)) (now (offsets .entry)))) (now (wires .entry)) (now (offs .entry)) (now (wires .exit)) (now (offs .exit)) ⌝ }
 {
     let mut i: usize = 1;
     let mut e: usize = 0;
     let mut to: usize = 0;
-    while i < wire.len() {
+    while to < m {
         let x = wire_at(wire, below, on, i);
         let p = write_wire(c, x, given, offsets, wires, offs, e, to);
         to = p.to;

@@ -6,3 +6,4 @@ pub mod Settling
 pub mod Leaves
 pub mod Pushing
 pub mod Ascending
+pub mod Clearing

@@ -1,39 +1,18 @@
--- Cleared tables are those of the way up before it begins; and what the given columns hold is within them.
-use Prim.Native.Nat.{ℕ, zero, suc, _≤_, _<_}
-use mathlib.Core.Path.{_≡_, refl, sym, subst, ap, _∙_}
+-- What the given columns hold is within a cleared table of leads.
+use Prim.Native.Nat.{ℕ, zero, suc, _<_}
+use mathlib.Core.Path.{_≡_}
 use mathlib.Core.List.{List, [], _∷_}
-use lib.ListN.{length, getD, replicate, getD-replicate, length-replicate}
+use lib.ListN.{length, getD, replicate, length-replicate}
 use native.Mathlib.Omega.{arith}
 use Rattle.rules.specs.declared.Entry.{Entry}
 use Rattle.rules.specs.Figures.{mostPlaces}
-use Rattle.rules.specs.Net.{Net, places, wire}
+use Rattle.rules.specs.Net.{Net}
 use Rattle.rules.specs.Load.{entries}
-use Rattle.rules.specs.Legal.{InOrder, Stands, start, Each}
+use Rattle.rules.specs.Legal.{InOrder, Stands, start}
 use Rattle.rules.specs.Sound.{SoundNet}
-use Rattle.load.proofs.Clear.{none-in}
-use Rattle.frontier.specs.Cell.{Cell}
-use Rattle.buffers.specs.Chain.{sumL, Chain}
-use Rattle.buffers.specs.Going.{tables, Going}
-use Rattle.buffers.proofs.Kids.{kids-end}
-use Rattle.finish.specs.Given.{Stood, Fresh}
-
--- a link of N leads nowhere
-pub going-none : (N : ℕ) (τ : Cell) (n : Net) (L : ℕ → ℕ) → places n ≤ N → N ≤ mostPlaces → Going τ n L (tables (replicate N 0) (replicate N 0) (replicate N 0) (replicate N N)) (places n) (places n)
-going-none N τ n L h few = record {
-  long = record {
-    enough = omega (arith, length-replicate {A = ℕ} N 0);
-    few = omega (arith, length-replicate {A = ℕ} N 0);
-    below = refl;
-    on = refl;
-    links = omega (arith, length-replicate {A = ℕ} N 0, length-replicate {A = ℕ} N N);
-  };
-  chains = λ v l. subst (Chain (length (replicate N 0)) (replicate N N) (getD (replicate N N) v 0)) (sym (kids-end n v)) (omega (arith, getD-replicate {A = ℕ} N v N 0 (omega arith), length-replicate {A = ℕ} N 0));
-  sums = λ v l. ap (sumL (λ j. getD (replicate N 0) j 0)) (kids-end n v) ∙ sym (none-in N v);
-  clear = λ j l. none-in N j;
-  fresh = λ v l. subst (Each (λ j. getD (replicate N 0) j 0 ≡ 0)) (sym (kids-end n v)) tt;
-  tops = λ j l g. absurd (omega arith);
-  marked = record { fits = λ i l g. absurd (omega arith); sinks = λ i l g. absurd (omega arith); nodes = λ i l g. absurd (omega arith) };
-}
+use Rattle.buffers.proofs.Clearing.{none-in}
+use Rattle.adding.specs.Given.{Stood}
+use Rattle.finish.specs.Given.{Fresh}
 
 stands-at : (n : Net) (d : Entry) (ws os : List ℕ) (e : ℕ) → InOrder n d (entries ws os) → length os ≡ length ws → e < length ws → Stands n (record { wire = getD ws e 0; offset = getD os e 0 })
 unfolding entries

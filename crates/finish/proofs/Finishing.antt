@@ -1,94 +1,21 @@
--- What the way up says comes to the answer: right marks are a least completion of the given entries, and a node that cannot be brought within the limit says that there is none.
-use Prim.Native.Nat.{ℕ, suc, _-_}
-use mathlib.Core.Path.{_≡_, refl, sym, subst, ap, _∙_}
+-- The answer by what is marked, counted and written.
+use Prim.Native.Nat.{ℕ}
+use mathlib.Core.Path.{refl}
 use mathlib.Core.List.{List}
-use lib.ListN.{length, getD}
-use native.Mathlib.Omega.{arith}
+use lib.ListN.{length}
 use Rattle.rules.specs.declared.Entry.{Entry}
 use Rattle.rules.specs.declared.Refusal.the-variants.{NoLegalPlacement}
-use Rattle.rules.specs.Figures.{mostPlaces}
-use Rattle.rules.specs.Net.{Net, net, places, wire}
-use Rattle.rules.specs.Load.{entries, offsetsOn}
+use Rattle.rules.specs.Net.{Net}
 use Rattle.rules.specs.Complete.{Completes, LeastAdded, NoneCompletes}
-use Rattle.rules.specs.Sound.{SoundNet}
-use Rattle.rules.proofs.Order.{in-order-rises}
-use Rattle.frontier.specs.Cell.{Cell, cellOf}
-use Rattle.frontier.specs.Placed.{onWires, placed}
-use Rattle.relief.specs.Pieces.{leadOf}
-use Rattle.relief.specs.Marks.{Marks, addedAt, Marked, Stuck}
-use Rattle.relief.proofs.Runs.{in-order-sorted}
-use Rattle.relief.proofs.Least.{completed, least-added, none-completes}
-use Rattle.states.specs.declared.Cell as code
-use Rattle.states.specs.States.{modelOf, limitsOf, CellOk}
-use Rattle.states.proofs.Leaves.{model-is}
-use Rattle.buffers.specs.Going.{leadsIn, Led, marksOf, Lost, Tables, Going}
-use Rattle.adding.specs.Walks.{allAdded, Ready}
 use Rattle.finish.specs.declared.Finished.{Finished}
 use Rattle.finish.specs.declared.Finished.the-variants.{Refused}
-use Rattle.finish.specs.Given.{Stood, Leads, Placed, short, fits}
+use Rattle.finish.specs.Given.{Placed, short, fits}
 use Rattle.finish.specs.Answer.{Outcome, none, full, finished}
-use Rattle.finish.proofs.Leading.{lead-low}
 
-module _ {c : code.Cell} {p w k pi po ws os leads : List ℕ} (ok : CellOk c) (sound : SoundNet (net (limitsOf c) p w k pi po)) (buffers : c .repeater ≡ 0) (stood : Stood (net (limitsOf c) p w k pi po) ws os) (led : Leads ws os leads) where
-  abbrev n : Net
-  n = net (limitsOf c) p w k pi po
-
-  abbrev g : List Entry
-  g = entries ws os
-
-  abbrev G : ℕ → List ℕ
-  G = offsetsOn (entries ws os)
-
-  pub led-low : length leads ≡ mostPlaces → Led (net (limitsOf c) p w k pi po) leads
-  led-low l = record { long = omega (arith, sound .few); low = λ i. lead-low (wire n i) (G i) (getD leads i 0) (led .is i) (in-order-rises n g (stood .order) i) }
-
-  same-leads : leadsIn leads ≡ (λ i. leadOf (G i))
-  same-leads = λ ι i. led .is i ι
-
-  -- 8
-  pub lost-none : Lost (modelOf c) (net (limitsOf c) p w k pi po) (leadsIn leads) → NoneCompletes (net (limitsOf c) p w k pi po) (entries ws os)
-  lost-none l =
-      none-completes sound buffers g (stood .order) (l .marks) (l .v) (l .low)
-      (λ-both (λ τ L. Marked τ n L (l .marks) (suc (l .v))) (l .marked))
-      (λ-both (λ τ L. Stuck τ n L (l .marks) (l .v)) (l .stuck))
-    where
-      λ-both : (P : Cell → (ℕ → ℕ) → Type 0) → P (modelOf c) (leadsIn leads) → P (cellOf (limitsOf c)) (λ i. leadOf (G i))
-      λ-both P x = subst (λ (τ : Cell). P τ (λ i. leadOf (G i))) (model-is ok) (subst (P (modelOf c)) same-leads x)
-
-  -- the marks of the way up, read by the walks that count and write
-  module _ (t : Tables) (going : Going (modelOf c) (net (limitsOf c) p w k pi po) (leadsIn leads) t 1 0) where
-    abbrev m : Marks
-    m = marksOf (t .below) (t .on)
-
-    pub ready : Ready (modelOf c) w (t .below) (t .on) ws os
-    ready = record {
-      same = stood .same;
-      few = stood .few;
-      wires = omega (arith, sound .few, sound .wires-long);
-      in-below = omega (arith, sound .wires-long, going .long .enough, going .long .below);
-      in-on = omega (arith, sound .wires-long, going .long .enough, going .long .on);
-      size = sound .wire-most;
-      fits = λ i lo hi. going .marked .fits i (omega arith) (omega (arith, sound .wires-long));
-      sorted = in-order-sorted n g (stood .order);
-      rises = in-order-rises n g (stood .order);
-    }
-
-    marked : Marked (cellOf (limitsOf c)) n (λ i. leadOf (G i)) m 0
-    marked = subst (λ (τ : Cell). Marked τ n (λ i. leadOf (G i)) m 0) (model-is ok) (subst (λ (L : ℕ → ℕ). Marked (modelOf c) n L m 0) same-leads (going .marked))
-
-    all-is : placed n (addedAt (cellOf (limitsOf c)) n G m) ≡ allAdded (modelOf c) w (t .below) (t .on) (entries ws os)
-    all-is = ap (λ (τ : Cell). onWires (addedAt τ n G m) (places n - 1) 1) (sym (model-is ok)) ∙ ap (λ (N : ℕ). onWires (addedAt (modelOf c) n G m) (N - 1) 1) (sym (sound .wires-long))
-
-    completes : Completes n g (allAdded (modelOf c) w (t .below) (t .on) (entries ws os))
-    completes = subst (Completes n g) all-is (completed sound buffers g (stood .order) m marked)
-
-    least : LeastAdded n g (length (allAdded (modelOf c) w (t .below) (t .on) (entries ws os)))
-    least = subst (λ (l : List Entry). LeastAdded n g (length l)) all-is (least-added sound buffers g (stood .order) m marked)
-
-    -- 9, or the entries
-    pub placed-answer : {vs us vs′ us′ : List ℕ} {r : Finished} → Placed (allAdded (modelOf c) w (t .below) (t .on) (entries ws os)) vs us vs′ us′ r → Outcome (net (limitsOf c) p w k pi po) (entries ws os) vs us vs′ us′ r
-    placed-answer (short o e q) = full (length (allAdded (modelOf c) w (t .below) (t .on) (entries ws os))) least o e q
-    placed-answer (fits o e q) = finished (allAdded (modelOf c) w (t .below) (t .on) (entries ws os)) completes least o e q
+-- 9, or the entries
+pub placed-answer : {n : Net} {g a : List Entry} {vs us vs′ us′ : List ℕ} {r : Finished} → Completes n g a → LeastAdded n g (length a) → Placed a vs us vs′ us′ r → Outcome n g vs us vs′ us′ r
+placed-answer {a = a} c l (short o e q) = full (length a) l o e q
+placed-answer {a = a} c l (fits o e q) = finished a c l o e q
 
 pub none-answer : {n : Net} {g : List Entry} (vs us : List ℕ) → NoneCompletes n g → Outcome n g vs us vs us (Refused NoLegalPlacement)
 none-answer vs us h = none h refl (record { wires = refl; offsets = refl })

@@ -22,7 +22,7 @@ use Rattle.rules.proofs.SoundSays.{sound-says}
 use Rattle.rules.proofs.Tests.{both-met, unless-met, then-met}
 use Rattle.rules.proofs.LegalJudged.{placed-order}
 use Rattle.standing.specs.Stands.{stood}
-use Rattle.finish.specs.Given.{Stood}
+use Rattle.adding.specs.Given.{Stood}
 use Rattle.finish.specs.declared.Finished.{Finished}
 use Rattle.finish.specs.declared.Finished.the-variants.{Refused}
 use Rattle.finish.specs.Answer.{halfJudged, Outcome, Answered}

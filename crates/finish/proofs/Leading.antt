@@ -8,12 +8,12 @@ use native.Mathlib.Omega.{arith}
 use native.Mathlib.Decide.{ℕ-discrete}
 use Rattle.rules.specs.declared.Entry.{Entry}
 use Rattle.rules.specs.Load.{entries, offsetsOn}
-use Rattle.rules.proofs.Order.{Rising}
 use Rattle.relief.specs.Pieces.{topmost, leadOf}
 use Rattle.relief.specs.Runs.{from}
 use Rattle.relief.proofs.Runs.{here, elsewhere}
 use Rattle.adding.proofs.Walking.{entry-at, entry-none}
-use Rattle.finish.specs.Given.{Fresh, Leads}
+use Rattle.adding.specs.Given.{Leads}
+use Rattle.finish.specs.Given.{Fresh}
 
 -- the lead that comes of x once the offsets are passed
 abbrev then : ℕ → List ℕ → ℕ
@@ -63,12 +63,3 @@ leading-more {ws} {os} {leads₀} {leads} {e} s same h low = record {
 pub leading-end : {ws os leads₀ leads : List ℕ} {e : ℕ} → Leading ws os leads₀ leads e → length ws ≤ e → Leads ws os leads
 unfolding offsetsOn
 leading-end {ws} {os} {leads₀} {leads} {e} s h = record { is = λ i. let z = entry-none ws os e h in sym (ap (λ (es : List Entry). then (getD leads i 0) (offsetsOn es i)) z) ∙ s .left i }
-
-pub lead-low : (w : ℕ) (gs : List ℕ) (lead : ℕ) → lead ≡ leadOf gs → Rising w 0 gs → lead ≤ suc w
-unfolding topmost
-lead-low w [] lead e r = omega arith
-lead-low w (o ∷ os) lead e r = omega (arith, low o os (r .1))
-  where
-    low : (at : ℕ) (gs : List ℕ) → Rising w at gs → topmost at gs ≤ w
-    low at [] h = h
-    low at (g ∷ gs) h = low g gs (h .1)

@@ -1,14 +1,13 @@
 // Finishes a half-buffered net: the fewest entries that, added to the given ones, make the whole legal.
 use states::Cell;
 ghost use mathlib.Core.Path.{_≡_};
-ghost use Prim.Native.Nat.{_≤_};
-ghost use lib.ListN.{length};
 ghost use Rattle.rules.specs.Net.{netAt};
 ghost use Rattle.rules.specs.Load.{entries};
 ghost use Rattle.rules.specs.Sound.{SoundNet};
 ghost use Rattle.states.specs.States.{modelOf, limitsOf, CellOk};
 ghost use Rattle.adding.specs.Walks.{allAdded, Ready};
-ghost use Rattle.finish.specs.Given.{Stood, Fresh, Leads, Placed};
+ghost use Rattle.adding.specs.Given.{Stood, Leads};
+ghost use Rattle.finish.specs.Given.{Fresh, Placed};
 ghost use Rattle.finish.specs.Answer.{Outcome, Answered, halfJudged};
 
 // The places of a table over nodes.
@@ -52,12 +51,12 @@ fn place(
     if columns::room(wires.len(), offs.len()) < m {
         return Finished::Refused(rules::Refusal::NoRoom(m));
     }
-    adding::write_all(c, wire, below, on, given, offsets, wires, offs);
+    adding::write_all(c, wire, below, on, given, offsets, wires, offs, m as usize);
     Finished::Added(m as usize)
 }
 
 // A net that is sound, of buffers, with given entries that stand on it: the way up, then 8, then 9, then the entries.
-pub fn finish_sound(
+fn finish_sound(
     c: Cell,
     parent: &[u16],
     wire: &[u32],

@@ -1,18 +1,14 @@
-// A least placement of a net: one call for buffers and inverters. Up the tree to the least count, then down again to a placement that has it; a net of buffers is
-// finished, with nothing given.
-use finish::Finished;
+// A least placement of a net: one call for buffers and inverters. Of inverters: up the tree to the least count, then down again to a placement that has it.
 use solution::Solved;
 use states::Cell;
 ghost use mathlib.Core.Path.{_≡_};
-ghost use mathlib.Core.List.{List, []};
-ghost use Prim.Native.Nat.{ℕ, _*_, _≤_};
+ghost use Prim.Native.Nat.{_*_, _≤_};
 ghost use lib.ListN.{length};
-ghost use Rattle.rules.specs.Net.{Net, netAt};
+ghost use Rattle.rules.specs.Net.{netAt};
 ghost use Rattle.rules.specs.Judge.{judged};
 ghost use Rattle.rules.specs.Sound.{SoundNet};
 ghost use Rattle.states.specs.States.{modelOf, limitsOf, CellOk};
 ghost use Rattle.tables.specs.Tables.{tablesAt, Filled};
-ghost use Rattle.finish.specs.Answer as finishing;
 ghost use Rattle.solution.specs.Answer.{Outcome, Answered};
 
 // Over cleared tables that reach as far as the net: the way up, then the answer.
@@ -198,47 +194,6 @@ fn solve_sound(
     solve_large(c, parent, wire, kind, pin, polarity, wires, offsets)
 }
 
-// What is answered where nothing is given is the solver's answer.
-fn solved(said: Finished) -> Solved
-    ensures { λ r. ⌜ ((n : Net) (ws os ws′ os′ : List ℕ) → finishing.Outcome n [] ws os ws′ os′ said → Outcome n ws os ws′ os′ r) ⌝ }
-{
-    match said {
-        Finished::Added(m) => Solved::Placed(m),
-        Finished::Refused(x) => Solved::Refused(x),
-    }
-}
-
-// A net that is sound, of buffers.
-fn solve_buffers(
-    c: Cell,
-    parent: &[u16],
-    wire: &[u32],
-    kind: &[u8],
-    pin: &[u32],
-    polarity: &[u8],
-    wires: &mut [u16],
-    offsets: &mut [u32],
-) -> Solved
-    requires { ⌜ CellOk c × SoundNet (netAt (limitsOf c) parent wire kind pin polarity) × (c .repeater ≡ 0) ⌝ }
-    ensures { λ r. ⌜ Outcome (netAt (limitsOf c) (parent .entry) (wire .entry) (kind .entry) (pin .entry) (polarity .entry)) (now (wires .entry)) (now (offsets .entry)) (now (wires .exit)) (now (offsets .exit)) r ⌝ }
-{
-    let no_wires = [0u16; 0];
-    let no_offsets = [0u32; 0];
-    let said = finish::finish_sound(
-        c,
-        parent,
-        wire,
-        kind,
-        pin,
-        polarity,
-        &no_wires,
-        &no_offsets,
-        wires,
-        offsets,
-    );
-    solved(said)
-}
-
 // The entries of a least placement into the lent columns, or a refusal that leaves them as they came.
 pub fn solve(
     limits: rules::Limits,
@@ -259,7 +214,7 @@ pub fn solve(
     let c = states::cell_from(limits);
     let repeater = limits.repeater;
     if repeater == 0 {
-        return solve_buffers(c, parent, wire, kind, pin, polarity, wires, offsets);
+        return buffered::answer(c, parent, wire, kind, pin, polarity, wires, offsets);
     }
     solve_sound(c, parent, wire, kind, pin, polarity, wires, offsets)
 }

@@ -4,7 +4,7 @@ use Rattle.rules.specs.declared.Limits.{Limits}
 use Rattle.rules.specs.Net.{Net, netAt}
 use Rattle.rules.specs.Load.{entries}
 use Rattle.rules.specs.Sound.{SoundNet}
-use Rattle.finish.specs.Given.{Stood}
+use Rattle.adding.specs.Given.{Stood}
 use Rattle.finish.specs.Answer.{halfJudged}
 use Rattle.finish.proofs.Judging.{half-sound, refused, answered}
 use borrow.Author.Needs.{needs}

@@ -5,8 +5,10 @@ use Rattle.rules.specs.Net.{net}
 use Rattle.states.specs.States.{modelOf, limitsOf}
 use Rattle.buffers.specs.Going.{leadsIn}
 use Rattle.buffers.proofs.Ascending.{tried-true, tried-false}
-use Rattle.finish.proofs.Clearing.{fresh, going-none}
-use Rattle.finish.proofs.Finishing.{led-low, lost-none, ready, placed-answer, none-answer}
+use Rattle.buffers.proofs.Clearing.{going-none}
+use Rattle.adding.proofs.Marking.{led-low, lost-none, ready, completes, least}
+use Rattle.finish.proofs.Clearing.{fresh}
+use Rattle.finish.proofs.Finishing.{placed-answer, none-answer}
 use borrow.Author.Needs.{needs}
 use Rattle.finish.proofs.finish_sound.Statement.{statement}
 use Rattle.finish.proofs.finish_sound.Tie as tie
@@ -80,7 +82,9 @@ returns-2 c =
     let a = s .args in
     let n = net (limitsOf (a .c)) (a .parent .now) (a .wire .now) (a .kind .now) (a .pin .now) (a .polarity .now) in
     let (ok, sound, buffers, stood) = s .pre in
-    placed-answer ok sound buffers stood (c .before .before .before .before .before .before .before .before .before .before .before .before .before .before .before .before .before .before .before .before .before .mark-leads .ensures) _ (tried-true (c .before .before .before .before .before .before .before .before .before .before .before .before .before .before .ascend .ensures) (c .before .before .before .before .before .before .before .before .before .if1 .left)) (c .before .before .before .before .place .ensures)
+    let led = c .before .before .before .before .before .before .before .before .before .before .before .before .before .before .before .before .before .before .before .before .before .mark-leads .ensures in
+    let going = tried-true (c .before .before .before .before .before .before .before .before .before .before .before .before .before .before .ascend .ensures) (c .before .before .before .before .before .before .before .before .before .if1 .left) in
+    placed-answer (completes ok sound buffers stood led _ going) (least ok sound buffers stood led _ going) (c .before .before .before .before .place .ensures)
 
 pub finish-sound-spec : {M : Type 1} → statement M
 finish-sound-spec =

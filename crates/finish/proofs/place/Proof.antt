@@ -20,7 +20,7 @@ returns c =
     let q = c .before .before .count-all .ensures in short (omega (arith, q, c .before .room .ensures)) (ap (λ (m : ℕ). Refused (NoRoom m)) q) (record { wires = refl; offsets = refl })
 
 write-all-requires : tie.Need-write-all-requires
-write-all-requires c κs = search needs
+write-all-requires c κs = (c .before .before .before .before .before .before .before .before .before .before .before .before .pre, (c .before .before .before .before .count-all .ensures, omega (arith, c .before .before .before .room .ensures), omega (arith, c .before .before .before .room .ensures)))
 
 same-length : tie.Need-same-length
 same-length c = search needs

@@ -24,8 +24,8 @@ enum-told c = search needs
 cell-from-requires : tie.Need-cell-from-requires
 cell-from-requires c κs = let s = c .before .before .before .before .before .before .before .before .before .before .args in let sound = sound-says (netAt (s .limits) (s .parent) (s .wire) (s .kind) (s .pin) (s .polarity)) (sym (c .before .before .judge .ensures) ∙ c .enum-told .given .1) in (sound .half, sound .limit-most, sound .repeater-most)
 
-solve-buffers-requires : tie.Need-solve-buffers-requires
-solve-buffers-requires c κs =
+answer-requires : tie.Need-answer-requires
+answer-requires c κs =
     let s = c .before .before .before .before .before .before .before .before .before .before .before .before .before .before .args in
     let sound = sound-says (netAt (s .limits) (s .parent) (s .wire) (s .kind) (s .pin) (s .polarity)) (sym (c .before .before .before .before .before .before .judge .ensures) ∙ c .before .before .before .before .enum-told .given .1) in
     let e = c .before .before .before .cell-from .ensures in
@@ -38,7 +38,7 @@ same-length-2 : tie.Need-same-length-2
 same-length-2 c = search needs
 
 returns-2 : tie.Need-returns-2
-returns-2 c = answered (c .before .before .before .before .before .before .before .before .cell-from .ensures .1) (sym (c .before .before .before .before .before .before .before .before .before .before .before .judge .ensures) ∙ c .before .before .before .before .before .before .before .before .before .enum-told .given .1) (c .before .before .before .before .solve-buffers .ensures)
+returns-2 c = answered (c .before .before .before .before .before .before .before .before .cell-from .ensures .1) (sym (c .before .before .before .before .before .before .before .before .before .before .before .judge .ensures) ∙ c .before .before .before .before .before .before .before .before .before .enum-told .given .1) (c .before .before .before .before .answer .ensures)
 
 solve-sound-requires : tie.Need-solve-sound-requires
 solve-sound-requires c κs =
@@ -65,7 +65,7 @@ solve-spec =
     returns
     enum-told
     cell-from-requires
-    solve-buffers-requires
+    answer-requires
     same-length
     same-length-2
     returns-2
