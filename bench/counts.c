@@ -23,7 +23,7 @@ static void row(struct chance *chance, uint32_t nodes, uint32_t limit, bool mixe
     static uint16_t wire[ENTRIES];
     static uint32_t offset[ENTRIES];
     make_net(chance, &net, POINTS, nodes, limit, 1, mixed);
-    struct answer least = c_solve(&net.limits, &net.columns, wire, offset, ENTRIES);
+    struct answer least = fast_solve(&net.limits, &net.columns, wire, offset, ENTRIES);
     printf("| %" PRIu32 " | %" PRIu32 " | %s |", nodes, limit, mixed ? "mixed" : "plus");
     if (least.number != 0)
         printf(" refused %" PRIu32 " |", least.number);

@@ -2,7 +2,7 @@
 #ifndef FIG4_H
 #define FIG4_H
 
-#include "baseline.h"
+#include "fast.h"
 
 /* legal: inverters in these numbers can be set on the net's wires so that
    the placement is legal (RULES 2.16). found is false where the procedure ends at infinity. */

@@ -3,7 +3,7 @@
 #define PAPER_NETS_H
 
 #include "../tests/chance.h"
-#include "baseline.h"
+#include "fast.h"
 
 struct net {
     struct limits limits;

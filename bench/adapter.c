@@ -1,7 +1,7 @@
-/* See plain_calls.h. The plain C has columns of one length; other lengths are judged here. */
-#include "plain_calls.h"
+/* See adapter.h. The fast C has columns of one length; other lengths are judged here. */
+#include "adapter.h"
 
-#include "baseline.h"
+#include "fast.h"
 
 static size_t lower(size_t a, size_t b)
 {
@@ -41,7 +41,7 @@ static struct ref_answer read_net(const uint8_t *bytes, size_t length, struct re
 {
     struct columns room = columns_of(to, shortest(to));
     struct limits read;
-    struct answer answer = c_read_net(bytes, length, &read, &room);
+    struct answer answer = fast_read_net(bytes, length, &read, &room);
     if (answer.number == 0) {
         limits->limit = read.limit;
         limits->pin = read.pin;
@@ -52,9 +52,10 @@ static struct ref_answer read_net(const uint8_t *bytes, size_t length, struct re
 
 static struct ref_answer judge(struct ref_limits limits, struct net_columns net)
 {
+    uint16_t children[PLACES];
     struct limits l = limits_of(limits);
     struct columns c = judged_columns(net);
-    struct answer judged = c_judge(&l, &c);
+    struct answer judged = fast_judge(&l, &c, children);
     return judged.number == 0 ? (struct ref_answer){0, 0} : turned(judged);
 }
 
@@ -63,7 +64,7 @@ static struct ref_answer solve(struct ref_limits limits, struct net_columns net,
 {
     struct limits l = limits_of(limits);
     struct columns c = judged_columns(net);
-    return turned(c_solve(&l, &c, to.wire, to.offset, lower(to.wires, to.offsets)));
+    return turned(fast_solve(&l, &c, to.wire, to.offset, lower(to.wires, to.offsets)));
 }
 
 static struct ref_answer check(struct ref_limits limits, struct net_columns net,
@@ -72,7 +73,7 @@ static struct ref_answer check(struct ref_limits limits, struct net_columns net,
     struct limits l = limits_of(limits);
     struct columns c = judged_columns(net);
     size_t entries = list.wires == list.offsets ? list.wires : ENTRIES + 1;
-    return turned(c_check(&l, &c, list.wire, list.offset, entries, source));
+    return turned(fast_check(&l, &c, list.wire, list.offset, entries, source));
 }
 
 static struct ref_answer finish(struct ref_limits limits, struct net_columns net,
@@ -81,11 +82,11 @@ static struct ref_answer finish(struct ref_limits limits, struct net_columns net
     struct limits l = limits_of(limits);
     struct columns c = judged_columns(net);
     size_t givens = given.wires == given.offsets ? given.wires : ENTRIES + 1;
-    return turned(c_finish(&l, &c, given.wire, given.offset, givens, to.wire, to.offset,
-                           lower(to.wires, to.offsets)));
+    return turned(fast_finish(&l, &c, given.wire, given.offset, givens, to.wire, to.offset,
+                              lower(to.wires, to.offsets)));
 }
 
-const struct calls plain_calls = {
-    .name = "plain C", .read_net = read_net, .judge = judge, .solve = solve, .check = check,
+const struct calls fast_calls = {
+    .name = "fast C", .read_net = read_net, .judge = judge, .solve = solve, .check = check,
     .finish = finish,
 };

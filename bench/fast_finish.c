@@ -1,8 +1,9 @@
 /* Finishing in one pass from the last wire to the first, beside the given entries from the last
    to the first: to what lies above it a given buffer is a sink of pin C_b. Each piece of wire
    takes as few buffers as serve, each as high as its load allows, and a node still over C_U gets
-   one atop its heaviest wires. A second pass, over the wires that got any, writes them. */
-#include "baseline.h"
+   one atop its heaviest wires. A second pass, over the wires that got any, writes them. A net
+   without given entries is solved by the same passes. */
+#include "fast.h"
 
 #include <string.h>
 
@@ -10,11 +11,11 @@
    ones, too, and the lowest stands in `first`, where node i's list has served its turn. */
 enum { SPACED = 1, TOPPED = 2, BESIDE = 4 };
 
+struct given { const uint16_t *wire; const uint32_t *offset; size_t entries; };
+
 struct pass {
     const struct columns *net;
-    const uint16_t *given;
-    const uint32_t *given_offset;
-    size_t givens;
+    struct given given;
     uint32_t limit, pin, span;
     uint64_t added;
     uint32_t below[PLACES], top[PLACES];   /* the load below a node; what a wire hands up */
@@ -22,20 +23,18 @@ struct pass {
     uint8_t marks[PLACES + 7];             /* for each wire; read eight at once */
 };
 
-/* The first entry on no wire, past its wire or out of order; `givens` for none. */
-static size_t first_misplaced(const struct pass *pass)
+/* The first entry on no wire, past its wire or out of order; their number for none. */
+static size_t first_misplaced(const struct columns *net, struct given given)
 {
-    const uint32_t *size = pass->net->wire, *offset = pass->given_offset;
-    size_t wires = pass->net->places - 1, givens = pass->givens;
     uint64_t before = 0;
-    for (size_t entry = 0; entry < givens; entry++) {
-        size_t wire = pass->given[entry];
-        uint64_t here = (uint64_t)wire << 32 | offset[entry];
-        if (wire - 1 >= wires || offset[entry] > size[wire] || here < before)
+    for (size_t entry = 0; entry < given.entries; entry++) {
+        size_t wire = given.wire[entry];
+        uint64_t here = (uint64_t)wire << 32 | given.offset[entry];
+        if (wire - 1 >= net->places - 1 || given.offset[entry] > net->wire[wire] || here < before)
             return entry;
         before = here;
     }
-    return givens;
+    return given.entries;
 }
 
 /* How many buffers a piece takes whose wire and lower end weigh `load`, over C_U. */
@@ -71,8 +70,8 @@ static bool relieve(struct pass *pass, size_t node)
    they take. Answers the lowest one, which is also how many entries lie before it. */
 static size_t settle_given(struct pass *pass, size_t i, size_t entry, uint32_t *count)
 {
-    const uint32_t *offset = pass->given_offset;
-    for (; entry > 0 && pass->given[entry - 1] == i; entry--) {
+    const uint32_t *offset = pass->given.offset;
+    for (; entry > 0 && pass->given.wire[entry - 1] == i; entry--) {
         uint32_t load = offset[entry] - offset[entry - 1] + pass->pin;
         if (load > pass->limit)
             *count += taken(pass, load);
@@ -90,7 +89,7 @@ static bool ascend(struct pass *pass)
     const uint16_t *parent = pass->net->parent;
     const uint32_t *size = pass->net->wire;
     const uint32_t limit = pass->limit;
-    size_t left = pass->givens, led = left > 0 ? pass->given[left - 1] : 0;
+    size_t left = pass->given.entries, led = left > 0 ? pass->given.wire[left - 1] : 0;
     for (size_t i = pass->net->places - 1;; i--) {
         if (pass->below[i] > limit && !relieve(pass, i))
             return false;
@@ -99,9 +98,9 @@ static bool ascend(struct pass *pass)
         uint32_t whole = size[i] + pass->below[i], count = 0;
         uint8_t beside = 0;
         if (i == led) {
-            whole = size[i] - pass->given_offset[left - 1] + pass->pin;
+            whole = size[i] - pass->given.offset[left - 1] + pass->pin;
             left = settle_given(pass, i, left - 1, &count);
-            led = left > 0 ? pass->given[left - 1] : 0;
+            led = left > 0 ? pass->given.wire[left - 1] : 0;
             beside = BESIDE;
         }
         if (whole > limit) {
@@ -135,12 +134,12 @@ static void write_piece(const struct pass *pass, struct lent *to, size_t i, uint
 
 static void write_wire(const struct pass *pass, struct lent *to, size_t i)
 {
+    const struct given *given = &pass->given;
     uint32_t low = 0, load = pass->below[i], size = pass->net->wire[i];
     if (pass->marks[i] & BESIDE)
-        for (size_t entry = pass->first[i]; entry < pass->givens && pass->given[entry] == i;
-             entry++) {
-            write_piece(pass, to, i, low, load, pass->given_offset[entry]);
-            low = pass->given_offset[entry];
+        for (size_t e = pass->first[i]; e < given->entries && given->wire[e] == i; e++) {
+            write_piece(pass, to, i, low, load, given->offset[e]);
+            low = given->offset[e];
             load = pass->pin;
         }
     if (pass->marks[i] & SPACED)
@@ -162,25 +161,13 @@ static void write_out(const struct pass *pass, struct lent to)
     }
 }
 
-struct answer c_finish(const struct limits *limits, const struct columns *net,
-                       const uint16_t *given, const uint32_t *given_offset, size_t givens,
-                       uint16_t *wire, uint32_t *offset, size_t room)
+/* Of a net that is judged, and given entries that stand. */
+static struct answer add(const struct limits *limits, const struct columns *net,
+                         struct given given, struct lent to, size_t room)
 {
     struct pass pass;
-    struct answer judged = c_judge(limits, net);
-    if (judged.number != 0)
-        return judged;
-    if (limits->type != 0)
-        return (struct answer){3, 0};
-    if (givens > ENTRIES)
-        return (struct answer){7, 0};
     pass.net = net;
     pass.given = given;
-    pass.given_offset = given_offset;
-    pass.givens = givens;
-    size_t misplaced = first_misplaced(&pass);
-    if (misplaced < givens)
-        return (struct answer){10, misplaced};
     pass.limit = limits->limit;
     pass.pin = limits->pin;
     pass.span = limits->limit - limits->pin;
@@ -192,6 +179,31 @@ struct answer c_finish(const struct limits *limits, const struct columns *net,
         return (struct answer){8, 0};
     if (pass.added > room || pass.added > ENTRIES)
         return (struct answer){9, pass.added};
-    write_out(&pass, (struct lent){wire, offset, 0});
+    write_out(&pass, to);
     return (struct answer){0, pass.added};
+}
+
+struct answer fast_finish(const struct limits *limits, const struct columns *net,
+                          const uint16_t *given, const uint32_t *given_offset, size_t givens,
+                          uint16_t *wire, uint32_t *offset, size_t room)
+{
+    uint16_t children[PLACES];
+    struct given kept = {given, given_offset, givens};
+    struct answer judged = fast_judge(limits, net, children);
+    if (judged.number != 0)
+        return judged;
+    if (limits->type != 0)
+        return (struct answer){3, 0};
+    if (givens > ENTRIES)
+        return (struct answer){7, 0};
+    size_t misplaced = first_misplaced(net, kept);
+    if (misplaced < givens)
+        return (struct answer){10, misplaced};
+    return add(limits, net, kept, (struct lent){wire, offset, 0}, room);
+}
+
+struct answer fast_solve_buffers(const struct limits *limits, const struct columns *net,
+                                 uint16_t *wire, uint32_t *offset, size_t room)
+{
+    return add(limits, net, (struct given){NULL, NULL, 0}, (struct lent){wire, offset, 0}, room);
 }

@@ -1,10 +1,12 @@
-/* The plain C in this folder against the tests' references, on random nets, placements and
-   files from a fixed seed.
+/* The fast C in this folder against the tests' reference, on random nets, placements and files,
+   whole and torn, from a fixed seed.
 
-     compare_baselines [NETS]           three times 20,000 and 2,000 larger ones unless said */
+     compare_fast [NETS]                three times 20,000 and 2,200 larger ones unless said */
+#include "../tests/fence.h"
 #include "../tests/random_nets.h"
-#include "baseline.h"
+#include "fast.h"
 #include "fig4.h"
+#include "paper_nets.h"
 
 #include <inttypes.h>
 #include <stdio.h>
@@ -38,17 +40,20 @@ static void try_solver(struct ref_net *net)
     struct limits limits = limits_of(net);
     struct columns columns = columns_of(net);
     int64_t least = ref_least_frontier(net, NULL);
-    struct answer answer = c_solve(&limits, &columns, found.wire, found.offset, REF_ENTRIES);
+    memset(&found, 0xA5, sizeof found);                  /* no answer of the net before */
+    struct answer answer = fast_solve(&limits, &columns, found.wire, found.offset, REF_ENTRIES);
     if (least == REF_NONE ? answer.number != 8 || answer.place != 0
                           : answer.place != (uint64_t)least)
         fail("solver's count", net);
     if (least != REF_NONE && answer.number != (least > REF_ENTRIES ? 9u : 0u))
         fail("solver's number", net);
+    if (answer.number == 9 && fast_solve(&limits, &columns, NULL, NULL, SIZE_MAX).number != 9)
+        fail("solver's number with room", net);
     found.entries = (size_t)answer.place;
     if (answer.number == 0 && !is_legal(net, &found))
         fail("solver's placement", net);
     if (answer.number == 0 && least > 0
-        && c_solve(&limits, &columns, NULL, NULL, (size_t)least - 1).number != 9)
+        && fast_solve(&limits, &columns, NULL, NULL, (size_t)least - 1).number != 9)
         fail("solver's room", net);
 }
 
@@ -73,7 +78,7 @@ static void try_checker(struct ref_net *net, const struct ref_placement *p)
     uint64_t source = 7, right = 7;
     struct ref_answer want =
         ref_check(net, p->wire, p->entries, p->offset, p->entries, NULL, &right);
-    struct answer have = c_check(&limits, &columns, p->wire, p->offset, p->entries, &source);
+    struct answer have = fast_check(&limits, &columns, p->wire, p->offset, p->entries, &source);
     if (have.number != want.number || have.place != want.place || source != right)
         fail("checker", net);
 }
@@ -102,22 +107,43 @@ static void same_columns(const struct ref_net *want, const struct ref_net *have)
         fail("reader's columns", want);
 }
 
-static void try_reader(struct chance *chance, const struct ref_net *net)
+/* A file made of this net's. No byte past it may be read. */
+static void try_file(const uint8_t *bytes, size_t length, const struct ref_net *net)
 {
-    static uint8_t bytes[REF_NET_BYTES + 10];
     static struct ref_net want, have;
     struct columns columns = columns_of(&have);
     struct limits limits;
-    size_t length = ref_write_net(net, bytes);
     columns.places = PLACES;
-    for (uint32_t times = chance_upto(chance, 3); times > 0; times--)
-        length = damage(chance, bytes, length);
     struct ref_answer right = ref_read_net(bytes, length, &want);
-    struct answer answer = c_read_net(bytes, length, &limits, &columns);
+    fence_anew();
+    struct answer answer = fast_read_net(fence_lend(bytes, length), length, &limits, &columns);
     if (answer.number != right.number || answer.place != right.place)
         fail("reader", net);
     if (answer.number == 0)
         same_columns(&want, &have);
+}
+
+static void try_reader(struct chance *chance, const struct ref_net *net)
+{
+    static uint8_t bytes[REF_NET_BYTES + 10];
+    size_t length = ref_write_net(net, bytes);
+    for (uint32_t times = chance_upto(chance, 3); times > 0; times--)
+        length = damage(chance, bytes, length);
+    try_file(bytes, length, net);
+}
+
+/* A chain of 1,024 wires, and the same with one node more at the source. */
+static void try_too_many(struct chance *chance)
+{
+    static const uint8_t more[17] = {0x03, 0, 11, [14] = 0x7F};
+    static uint8_t bytes[REF_NET_BYTES];
+    static struct ref_net net;
+    struct size size = {.wire = 9, .pin = 9};
+    random_shape(chance, &net, CHAIN, 1024, (struct ref_limits){.limit = 10, .pin = 2}, size);
+    size_t length = ref_write_net(&net, bytes);
+    try_file(bytes, length, &net);
+    memcpy(bytes + length - 3, more, sizeof more);
+    try_file(bytes, length + 14, &net);
 }
 
 /* C_U 1, C_b 0, 1,024 wires of 10,000,000: every unit of wire or pin but one wants its own
@@ -135,9 +161,21 @@ static void try_largest(struct chance *chance, enum shape shape)
     }
     struct limits same = limits_of(&net);
     struct columns columns = columns_of(&net);
-    struct answer answer = c_solve(&same, &columns, NULL, NULL, REF_ENTRIES);
+    struct answer answer = fast_solve(&same, &columns, NULL, NULL, SIZE_MAX);
     if (answer.number != 9 || answer.place != units - 1)
         fail("solver's largest count", &net);
+}
+
+/* The same of inverters, on one wire: any parity will do. */
+static void try_longest(void)
+{
+    static struct ref_net net = {.limits = {.limit = 1, .type = 1}, .nodes = 2,
+                                 .wire = {0, 10000000}, .kind = {0, 1}};
+    struct limits limits = limits_of(&net);
+    struct columns columns = columns_of(&net);
+    struct answer answer = fast_solve(&limits, &columns, NULL, NULL, SIZE_MAX);
+    if (answer.number != 9 || answer.place != 9999999)
+        fail("solver's longest wire", &net);
 }
 
 /* ------------------------------------------------------------ finishing
@@ -222,8 +260,8 @@ static struct answer finished(struct ref_net *net, const struct ref_placement *g
     struct columns columns = columns_of(net);
     for (size_t i = 0; i < REF_ENTRIES; i++)
         added->offset[i] = added->wire[i] = 7;
-    struct answer answer = c_finish(&limits, &columns, given->wire, given->offset, given->entries,
-                                    added->wire, added->offset, room);
+    struct answer answer = fast_finish(&limits, &columns, given->wire, given->offset,
+                                       given->entries, added->wire, added->offset, room);
     added->entries = answer.number == 0 ? (size_t)answer.place : 0;
     for (size_t i = added->entries; i < REF_ENTRIES; i++)
         if (added->offset[i] != 7 || added->wire[i] != 7)
@@ -311,20 +349,57 @@ static void try_extremes(void)
 
 /* ------------------------------------------------------------ all of it */
 
-static void run(struct chance *chance, struct size size, long nets)
+struct seen { long nets, legal, done, worse; };
+
+static void try_net(struct chance *chance, struct ref_net *net, struct seen *seen)
 {
-    long legal = 0, worse = 0, done = 0;
-    for (long i = 0; i < nets; i++) {
-        static struct ref_net net;
+    try_solver(net);
+    try_one_label(net, &seen->worse);
+    try_placements(chance, net, &seen->legal);
+    try_reader(chance, net);
+    try_givens(chance, net, &seen->done);
+    seen->nets++;
+}
+
+static void report(const char *what, uint32_t wires, struct seen seen)
+{
+    printf("%ld %s of up to %u wires, %ld with a legal placement, %ld finished: same answers; "
+           "one label a polarity does not do for %ld\n", seen.nets, what, wires, seen.legal,
+           seen.done, seen.worse);
+}
+
+static void random_ones(struct chance *chance, struct size size, long nets)
+{
+    static struct ref_net net;
+    struct seen seen = {0, 0, 0, 0};
+    while (seen.nets < nets) {
         random_net(chance, &net, size);
-        try_solver(&net);
-        try_one_label(&net, &worse);
-        try_placements(chance, &net, &legal);
-        try_reader(chance, &net);
-        try_givens(chance, &net, &done);
+        try_net(chance, &net, &seen);
     }
-    printf("%ld nets of up to %u wires, %ld with a legal placement, %ld finished: same answers; "
-           "one label a polarity does not do for %ld\n", nets, size.wires, legal, done, worse);
+    report("nets", size.wires, seen);
+}
+
+/* Those that are measured: the paper's kind, chains and stars. */
+static void paper_ones(struct chance *chance, uint32_t nodes, long nets)
+{
+    static struct net made;
+    static struct ref_net net;
+    struct seen seen = {0, 0, 0, 0};
+    while (seen.nets < nets) {
+        uint32_t limit = 20000 << chance_upto(chance, 5);
+        uint8_t type = (uint8_t)chance_upto(chance, 1);
+        make_net(chance, &made, (enum form)chance_upto(chance, STAR_NET),
+                 1 + chance_upto(chance, nodes - 1), limit, type, chance_upto(chance, 3) > 0);
+        net.limits = (struct ref_limits){made.limits.limit, made.limits.pin, made.limits.type};
+        net.nodes = made.columns.places;
+        memcpy(net.parent, made.parent, sizeof net.parent);
+        memcpy(net.wire, made.wire, sizeof net.wire);
+        memcpy(net.kind, made.kind, sizeof net.kind);
+        memcpy(net.pin, made.pin, sizeof net.pin);
+        memcpy(net.polarity, made.polarity, sizeof net.polarity);
+        try_net(chance, &net, &seen);
+    }
+    report("nets of those that are measured", nodes, seen);
 }
 
 int main(int count, char **word)
@@ -333,10 +408,14 @@ int main(int count, char **word)
     struct chance chance = {4711};
     for (enum shape shape = CHAIN; shape < SHAPES; shape++)
         try_largest(&chance, shape);
+    try_longest();
+    try_too_many(&chance);
     try_extremes();
-    run(&chance, (struct size){.wires = 6, .limit = 9, .wire = 4, .pin = 5}, nets);
-    run(&chance, (struct size){.wires = 14, .limit = 40, .wire = 60, .pin = 15}, nets);
-    run(&chance, (struct size){.wires = 14, .limit = 40, .wire = 6, .pin = 8}, nets);
-    run(&chance, (struct size){.wires = 60, .limit = 200, .wire = 300, .pin = 30}, nets / 10);
+    random_ones(&chance, (struct size){.wires = 6, .limit = 9, .wire = 4, .pin = 5}, nets);
+    random_ones(&chance, (struct size){.wires = 14, .limit = 40, .wire = 60, .pin = 15}, nets);
+    random_ones(&chance, (struct size){.wires = 14, .limit = 40, .wire = 6, .pin = 8}, nets);
+    random_ones(&chance, (struct size){.wires = 60, .limit = 200, .wire = 300, .pin = 30},
+                nets / 10);
+    paper_ones(&chance, 1024, nets / 100);
     return 0;
 }

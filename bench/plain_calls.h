@@ -1,4 +1,0 @@
-/* The plain C behind the calls of tests/calls.h: tried there, and an example of an adapter. */
-#include "../tests/calls.h"
-
-extern const struct calls plain_calls;
