@@ -1,4 +1,1 @@
-pub mod Attaining
 pub mod Choosing
-pub mod Aiming
-pub mod Assembling

@@ -1,5 +1,1 @@
-pub mod Reading
 pub mod Mixing
-pub mod Closing
-pub mod Joining
-pub mod Nodes

@@ -1,14 +1,29 @@
-// Rows of loads: what the wires under a point are worth for each surplus over their least counts; one wire more, and a node's state out of it.
+// A node's state out of the slot of its wires: by the slot's two loads where the first of them fits, and else by the row of the wires. The rows of an overfull node, of all
+// its wires and of each tail of them, are made in one scratch table.
 use states::Cell;
-use states::Side;
 ghost use mathlib.Core.Path.{_≡_};
-ghost use mathlib.Core.Logic.{_⊎_};
-ghost use Prim.Native.Nat.{ℕ, _+_, _*_, _<_, _≤_};
-ghost use lib.ListN.{length, getD, set};
-ghost use Rattle.frontier.specs.Frontier;
-ghost use Rattle.states.specs.States.{modelOf, st, CellOk, Small};
-ghost use Rattle.rows.specs.Rows.{loadAt, mixed, Mixed, slot, HasSlot, SmallAcc, FirstFit, Hung};
-ghost use Rattle.rows.specs.Sides.{sideOf, NodeSides, Lifted};
+ghost use Prim.Native.Nat.{ℕ, _+_, _*_, _<_, _≤_, min};
+ghost use lib.ListN.{length};
+ghost use Rattle.rules.specs.Figures.{mostPlaces, mostChildren};
+ghost use Rattle.rules.specs.Tree.{Hanging};
+ghost use Rattle.states.specs.States.{modelOf, CellOk};
+ghost use Rattle.surplus.specs.Rows.{loadAt, mixed, Mixed, FirstFit};
+ghost use Rattle.surplus.specs.Tables.{loAt, hiAt};
+ghost use Rattle.surplus.specs.Asks.{Runs, Running, Rows, CloseIs, ClosedIs, AsksClose, AskedClose};
+
+// The places of a table over nodes, of one that has two for each, and of the rows: the square of one more than the children that a node can have.
+pub const PLACES: usize = 1025;
+
+pub const SIDES: usize = 2 * PLACES;
+
+pub const ROWS: usize = 81;
+
+// A link as a place.
+pub fn place(x: u16) -> usize
+    ensures { λ r. ⌜ r ≡ x ⌝ }
+{
+    x as usize
+}
 
 // The load for a surplus of e in the row at `at`, which no longer falls past `last`.
 pub fn load_at(rows: &[u32], at: usize, last: usize, e: usize) -> u64
@@ -21,8 +36,28 @@ pub fn load_at(rows: &[u32], at: usize, last: usize, e: usize) -> u64
     states::wide(rows[at + last])
 }
 
+// What a wire hands up with 0, 1 or 2 of a surplus.
+pub struct Loads {
+    pub least: u64,
+    pub one: u64,
+    pub two: u64,
+}
+
+pub fn loads_of(c: Cell, slots: &[[u32; 4]; SIDES], p: usize, j: usize) -> Loads
+    requires { ⌜ (p ≤ 1) × (j < mostPlaces) ⌝ }
+    ensures { λ r. ⌜ (r .least ≡ loAt (now (slots .entry)) p j) × (r .one ≡ hiAt (now (slots .entry)) p j) × (r .two ≡ min (loAt (now (slots .entry)) p j) (c .pin)) ⌝ }
+{
+    let own = slots[j * 2 + p];
+    let least = states::wide(own[0]);
+    Loads {
+        least: least,
+        one: states::wide(own[1]),
+        two: states::least(least, c.pin),
+    }
+}
+
 // One load of a row with one wire more, which takes 0, 1 or 2 of the surplus e and then hands up a, b or c.
-pub fn mixed_at(rows: &[u32], at: usize, last: usize, e: usize, a: u64, b: u64, c: u64) -> u64
+fn mixed_at(rows: &[u32], at: usize, last: usize, e: usize, a: u64, b: u64, c: u64) -> u64
     requires { ⌜ at + last < length (now rows) ⌝ }
     requires { ⌜ (a ≤ 1000000) × (b ≤ 1000000) × (c ≤ 1000000) ⌝ }
     requires { ⌜ ((k : ℕ) → loadAt (now rows) at last k ≤ 2000000000) ⌝ }
@@ -40,14 +75,16 @@ pub fn mixed_at(rows: &[u32], at: usize, last: usize, e: usize, a: u64, b: u64, 
     states::least(x, states::least(y, z))
 }
 
-// The row at `to`: that at `from` with one wire more.
-pub fn mix(rows: &mut [u32], from: usize, last: usize, to: usize, a: u64, b: u64, c: u64)
-    requires { ⌜ (from + last < length (now rows)) × (to + (last + 3) ≤ length (now rows)) ⌝ }
-    requires { ⌜ ((from + last < to) ⊎ (to + (last + 3) ≤ from)) ⌝ }
+// The row of m + 1 wires, out of that of the m wires after the first of them, which hands up a, b or c.
+fn mix(rows: &mut [u32], m: usize, a: u64, b: u64, c: u64)
+    requires { ⌜ (m < mostChildren) × (length (now rows) ≡ (mostChildren + 1) * (mostChildren + 1)) ⌝ }
     requires { ⌜ (a ≤ 1000000) × (b ≤ 1000000) × (c ≤ 1000000) ⌝ }
-    requires { ⌜ ((k : ℕ) → loadAt (now rows) from last k ≤ 2000000000) ⌝ }
-    ensures { λ r. ⌜ Mixed (now (rows .entry)) (now (rows .exit)) from last to a b c ⌝ }
+    requires { ⌜ ((k : ℕ) → loadAt (now rows) (m * m) (m * 2) k ≤ 2000000000) ⌝ }
+    ensures { λ _. ⌜ Mixed (now (rows .entry)) (now (rows .exit)) (m * m) (m * 2) ((m + 1) * (m + 1)) a b c ⌝ }
 {
+    let from = m * m;
+    let last = m * 2;
+    let to = (m + 1) * (m + 1);
     let mut e: usize = 0;
     while e < last + 3 {
         let x = mixed_at(rows, from, last, e, a, b, c);
@@ -57,45 +94,33 @@ pub fn mix(rows: &mut [u32], from: usize, last: usize, to: usize, a: u64, b: u64
     }
 }
 
-// Wire i with the wires after it under its parent, at one polarity: those after it have the row of slot `from`.
-pub fn hang_side(
+// The rows of the wires from k on under a point, and of those after each: that of m wires at the square of m. Answers how many there are.
+pub fn spread(
     c: Cell,
     rows: &mut [u32],
-    counts: &mut [u64],
-    loads: &mut [u64],
-    mores: &mut [u64],
+    links: &[u16; SIDES],
+    slots: &[[u32; 4]; SIDES],
     p: usize,
-    last: usize,
-    from: usize,
-    i: usize,
-    s: Side,
-)
-    requires { ⌜ HasSlot (now rows) (now counts) from × HasSlot (now rows) (now counts) i × (i < length (now loads)) × (i < length (now mores)) ⌝ }
-    requires { ⌜ (p ≤ 1) × (last ≤ 14) ⌝ }
-    requires { ⌜ (from ≡ i → ⊥) ⌝ }
-    requires { ⌜ CellOk c × Small 1000000000000 s × SmallAcc (slot (now rows) (now counts) p last from) ⌝ }
-    ensures { λ r. ⌜ Hung (modelOf c) (st s) p last from i (now (rows .entry)) (now (counts .entry)) (now (loads .entry)) (now (mores .entry)) (now (rows .exit)) (now (counts .exit)) (now (loads .exit)) (now (mores .exit)) ⌝ }
+    k: usize,
+) -> usize
+    requires { ⌜ (p ≤ 1) × (length (now rows) ≡ (mostChildren + 1) * (mostChildren + 1)) ⌝ }
+    requires { ⌜ Running (modelOf c) (now links) (now slots) p k ⌝ }
+    ensures { λ n. ⌜ ((f : Hanging) → Runs (modelOf c) (now (links .entry)) (now (slots .entry)) p k f → Rows (modelOf c) (now (rows .exit)) p n f) ⌝ }
+    ensures { λ _. ⌜ length (now (rows .exit)) ≡ length (now (rows .entry)) ⌝ }
 {
-    let Side::Has(m, a, b) = s else {
-        counts[i] = 0;
-        return;
-    };
-    let n = counts[from];
-    if n == 0 {
-        counts[i] = 0;
-        return;
+    if k == 0 {
+        rows[0] = 0;
+        return 0;
     }
-    counts[i] = m + n;
-    loads[i] = a;
-    mores[i] = b;
-    let f = states::least(a, c.pin);
-    let read = from * 34 + p * 17;
-    let made = i * 34 + p * 17;
-    mix(rows, read, last, made, a, b, f);
+    let next = place(links[k * 2]);
+    let m = spread(c, rows, links, slots, p, next);
+    let l = loads_of(c, slots, p, k);
+    mix(rows, m, l.least, l.one, l.two);
+    m + 1
 }
 
 // The least surplus at which the load fits, or one more than `last`.
-pub fn first_fit(rows: &[u32], at: usize, last: usize, limit: u64) -> usize
+fn first_fit(rows: &[u32], at: usize, last: usize, limit: u64) -> usize
     requires { ⌜ at + last < length (now rows) ⌝ }
     ensures { λ e. ⌜ FirstFit (now (rows .entry)) at last limit e ⌝ }
 {
@@ -110,98 +135,77 @@ pub fn first_fit(rows: &[u32], at: usize, last: usize, limit: u64) -> usize
     e
 }
 
-// A node's state out of the row of the slot k.
-pub fn close(c: Cell, rows: &[u32], counts: &[u64], p: usize, last: usize, k: usize) -> Side
-    requires { ⌜ HasSlot (now rows) (now counts) k × (p ≤ 1) × (last ≤ 16) ⌝ }
-    requires { ⌜ CellOk c × SmallAcc (slot (now rows) (now counts) p last k) ⌝ }
-    ensures { λ r. ⌜ st r ≡ Frontier.close (modelOf c) last (slot (now (rows .entry)) (now (counts .entry)) p last k) ⌝ }
-    ensures { λ r. ⌜ Small 500000000000 r ⌝ }
+// What is kept of a node: its least load, that with one more, and one more than the surplus that it takes; 0 for none.
+pub struct Closed {
+    pub load: u32,
+    pub more: u32,
+    pub over: u32,
+}
+
+// It is read off the row of its m wires.
+fn close_row(c: Cell, rows: &[u32], m: usize) -> Closed
+    requires { ⌜ CellOk c × (m ≤ mostChildren) × (length (now rows) ≡ (mostChildren + 1) * (mostChildren + 1)) ⌝ }
+    ensures { λ r. ⌜ CloseIs (modelOf c) (now (rows .entry)) m (r .load) (r .more) (r .over) ⌝ }
 {
-    let n = counts[k];
-    if n == 0 {
-        return Side::Lost;
-    }
-    let at = k * 34 + p * 17;
+    let at = m * m;
+    let last = m * 2;
     let e = first_fit(rows, at, last, c.limit);
     if last < e {
-        return Side::Lost;
+        return Closed {
+            load: 0,
+            more: 0,
+            over: 0,
+        };
     }
     let a = load_at(rows, at, last, e);
     let b = load_at(rows, at, last, e + 1);
-    Side::Has(n - 1 + e as u64, a, states::least(a, b))
+    let less = states::least(a, b);
+    Closed {
+        load: a as u32,
+        more: less as u32,
+        over: (e + 1) as u32,
+    }
 }
 
-// A node's state at one polarity.
-pub fn node_side(
+// A node's state out of the slot k of its wires. Where their least loads fit it takes no surplus, and needs no row.
+pub fn close(
     c: Cell,
-    kind: u8,
-    pin: u64,
-    polarity: u8,
-    rows: &[u32],
-    counts: &[u64],
-    p: u8,
-    last: usize,
+    rows: &mut [u32],
+    links: &[u16; SIDES],
+    slots: &[[u32; 4]; SIDES],
+    sums: &[u64; SIDES],
+    p: usize,
     k: usize,
-) -> Side
-    requires { ⌜ HasSlot (now rows) (now counts) k × (p ≤ 1) × (last ≤ 16) ⌝ }
-    requires { ⌜ CellOk c × SmallAcc (slot (now rows) (now counts) p last k) ⌝ }
-    ensures { λ r. ⌜ st r ≡ sideOf (modelOf c) kind pin polarity last (slot (now (rows .entry)) (now (counts .entry)) p last k) p ⌝ }
-    ensures { λ r. ⌜ Small 500000000000 r ⌝ }
+) -> Closed
+    requires { ⌜ CellOk c × (p ≤ 1) × (k < mostPlaces) × (length (now rows) ≡ (mostChildren + 1) * (mostChildren + 1)) ⌝ }
+    requires { ⌜ AskedClose (modelOf c) (now links) (now slots) (now sums) p k ⌝ }
+    ensures { λ r. ⌜ ((f : Hanging) → AsksClose (modelOf c) (now (links .entry)) (now (slots .entry)) (now (sums .entry)) p k f → ClosedIs (modelOf c) p f (r .load) (r .more) (r .over)) ⌝ }
+    ensures { λ _. ⌜ length (now (rows .exit)) ≡ length (now (rows .entry)) ⌝ }
 {
-    if kind == 0 {
-        return close(c, rows, counts, p as usize, last, k);
+    let at = k * 2 + p;
+    if sums[at] == 0 {
+        return Closed {
+            load: 0,
+            more: 0,
+            over: 0,
+        };
     }
-    states::leaf(c, pin, polarity, p)
-}
-
-pub struct Sides {
-    pub plus: Side,
-    pub minus: Side,
-}
-
-// A node's two states.
-pub fn node_sides(
-    c: Cell,
-    kind: u8,
-    pin: u64,
-    polarity: u8,
-    rows: &[u32],
-    plus: &[u64],
-    minus: &[u64],
-    last: usize,
-    k: usize,
-) -> Sides
-    requires { ⌜ HasSlot (now rows) (now plus) k × HasSlot (now rows) (now minus) k × (last ≤ 16) ⌝ }
-    requires { ⌜ CellOk c × SmallAcc (slot (now rows) (now plus) 0 last k) × SmallAcc (slot (now rows) (now minus) 1 last k) ⌝ }
-    ensures { λ r. ⌜ NodeSides (modelOf c) kind pin polarity last (slot (now (rows .entry)) (now (plus .entry)) 0 last k) (slot (now (rows .entry)) (now (minus .entry)) 1 last k) r ⌝ }
-{
-    Sides {
-        plus: node_side(c, kind, pin, polarity, rows, plus, 0, last, k),
-        minus: node_side(c, kind, pin, polarity, rows, minus, 1, last, k),
+    let own = slots[at];
+    let a = own[2];
+    if states::wide(a) <= c.limit {
+        return Closed {
+            load: a,
+            more: lower(a, own[3]),
+            over: 1,
+        };
     }
+    let m = spread(c, rows, links, slots, p, k);
+    close_row(c, rows, m)
 }
 
-// What a wire of size w is worth over them.
-pub fn lift(c: Cell, w: u64, s: Sides) -> Sides
-    requires { ⌜ CellOk c × (w ≤ 10000000) × Small 500000000000 (s .plus) × Small 500000000000 (s .minus) ⌝ }
-    ensures { λ r. ⌜ Lifted (modelOf c) w s r ⌝ }
+// The lower of two loads.
+pub fn lower(a: u32, b: u32) -> u32
+    ensures { λ r. ⌜ r ≡ min a b ⌝ }
 {
-    let a = s.plus;
-    let b = s.minus;
-    Sides {
-        plus: states::over(c, w, a, b),
-        minus: states::over(c, w, b, a),
-    }
-}
-
-// Wire i is the first under v now, before the one that was.
-pub fn link(many: &mut [usize], next: &mut [usize], head: &mut [usize], v: usize, i: usize)
-    requires { ⌜ (i < length (now many)) × (i < length (now next)) × (v < length (now head)) ⌝ }
-    requires { ⌜ (getD (now head) v 0 < length (now many)) × (getD (now many) (getD (now head) v 0) 0 ≤ 8) ⌝ }
-    ensures { λ r. ⌜ (now (next .exit) ≡ set (now (next .entry)) i (getD (now (head .entry)) v 0)) × (now (many .exit) ≡ set (now (many .entry)) i (getD (now (many .entry)) (getD (now (head .entry)) v 0) 0 + 1)) × (now (head .exit) ≡ set (now (head .entry)) v i) ⌝ }
-{
-    let k = head[v];
-    next[i] = k;
-    many[i] = many[k] + 1;
-    head[v] = i;
+    if a < b { a } else { b }
 }

@@ -1,9 +1,9 @@
--- Laws of one wire: how large its numbers are, the cases of a merge, and the cases by the type. Each is a computation or a bound of sums.
+-- Laws of one wire: how large its numbers are, and the cases of a merge. Each is a computation or a bound of sums.
 use Prim.Native.Nat.{ℕ, zero, suc, _+_, _-_, _*_, _%_, _≤_, _<_, min, max}
 use mathlib.Core.Path.{_≡_, refl, ap}
 use native.Mathlib.Nat.{div-add-mod', mul-le-mul-left}
 use native.Mathlib.Omega.{arith}
-use Rattle.frontier.specs.Cell.{Kind, buf, inv, Cell, kindOf, cellOf}
+use Rattle.frontier.specs.Cell.{Kind, buf, inv, Cell, cellOf, kindOf}
 use Rattle.frontier.specs.Frontier.{State, lost, has, mergeBy, merge, ceil, req, T, second, cand, via, wire}
 use Rattle.frontier.proofs.Lower.{ceil-least, req-ok, T-fits}
 use Rattle.states.specs.declared.Cell as code
@@ -42,6 +42,11 @@ pub small-up : (j k : ℕ) (s : State) → j ≤ k → SmallS j s → SmallS k s
 small-up j k lost l x = tt
 small-up j k (has m p q) l x = (omega arith, x .1, x .2)
 
+pub second-le : (τ : Cell) (κ : Kind) (a : ℕ) → second τ κ a ≤ a
+unfolding second
+second-le τ buf a = omega arith
+second-le τ inv a = omega arith
+
 module _ (τ : Cell) (eq : τ.cu ≡ τ.cb + τ.D) (pos : 1 ≤ τ.D) (small : τ.cu ≤ 1000000) where
   -- ---- how many on a wire
   ceil-mul : (v : ℕ) → ceil τ v * τ.D ≤ (v - τ.cu) + (τ.D - 1)
@@ -51,10 +56,9 @@ module _ (τ : Cell) (eq : τ.cu ≡ τ.cb + τ.D) (pos : 1 ≤ τ.D) (small : �
   ceil-few : (v : ℕ) → v ≤ 11000000 → ceil τ v ≤ 11000000
   ceil-few v h = ceil-least τ eq pos v 11000000 (omega (arith, mul-le-mul-left 11000000 pos))
 
-  pub req-mul : (κ : Kind) (π v : ℕ) → v ≤ 11000000 → req τ κ π v * τ.D ≤ 2000000000
+  pub req-mul : (π v : ℕ) → v ≤ 11000000 → req τ inv π v * τ.D ≤ 2000000000
   unfolding req
-  req-mul buf π v h = omega (arith, ceil-mul v)
-  req-mul inv π v h = go ((ceil τ v + π) % 2) (omega arith)
+  req-mul π v h = go ((ceil τ v + π) % 2) (omega arith)
     where
       go : (z : ℕ) → z ≤ 1 → (ceil τ v + z) * τ.D ≤ 2000000000
       go zero l = omega (arith, ceil-mul v)
@@ -66,16 +70,11 @@ module _ (τ : Cell) (eq : τ.cu ≡ τ.cb + τ.D) (pos : 1 ≤ τ.D) (small : �
   req-few buf π v h = omega (arith, ceil-few v h)
   req-few inv π v h = omega (arith, ceil-few v h)
 
-  second-le : (κ : Kind) (a : ℕ) → second τ κ a ≤ a
-  unfolding second
-  second-le buf a = omega arith
-  second-le inv a = omega arith
-
   pub cand-small : (κ : Kind) (π n v : ℕ) → v ≤ 11000000 → SmallS (n + 11000001) (cand τ κ π n v)
   unfolding cand
   cand-small κ π n v h =
       let f : T τ v (req τ κ π v) ≤ τ.cu = T-fits τ eq pos v (req τ κ π v) (req-ok τ eq pos κ π v) in
-      (omega (arith, req-few κ π v h), omega arith, omega (arith, second-le κ (T τ v (req τ κ π v))))
+      (omega (arith, req-few κ π v h), omega arith, omega (arith, second-le τ κ (T τ v (req τ κ π v))))
 
   pub via-small : (κ : Kind) (π w k : ℕ) (s : State) → w ≤ 10000000 → SmallS k s → SmallS (k + 11000002) (via τ κ π w s)
   unfolding via
@@ -101,41 +100,11 @@ unfolding wire wireOf
 wire-1 τ buf w nd = refl
 wire-1 τ inv w nd = refl
 
--- ---- by the type and by the number on the wire
+-- ---- by the number on the wire, and by the node's state
 module _ (τ : Cell) where
-  pub req-0 : (k π v : ℕ) → k ≡ 0 → req τ (kindOf k) π v ≡ ceil τ v
-  unfolding req
-  req-0 zero π v e = refl
-  req-0 (suc k) π v e = absurd (omega arith)
-
-  pub req-1 : (k π v : ℕ) → (k ≡ 0 → ⊥) → req τ (kindOf k) π v ≡ ceil τ v + (ceil τ v + π) % 2
-  unfolding req
-  req-1 zero π v e = absurd (e refl)
-  req-1 (suc k) π v e = refl
-
   pub T-suc : (v r : ℕ) → (r ≡ 0 → ⊥) → T τ v r ≡ max τ.cb (v - r * τ.D)
   T-suc v zero e = absurd (e refl)
   T-suc v (suc r) e = refl
-
-  pub cand-0 : (k π n v : ℕ) → k ≡ 0 → cand τ (kindOf k) π n v ≡ has (n + req τ (kindOf k) π v) (T τ v (req τ (kindOf k) π v)) (min (T τ v (req τ (kindOf k) π v)) τ.cb)
-  unfolding cand second
-  cand-0 zero π n v e = refl
-  cand-0 (suc k) π n v e = absurd (omega arith)
-
-  pub cand-1 : (k π n v : ℕ) → (k ≡ 0 → ⊥) → cand τ (kindOf k) π n v ≡ has (n + req τ (kindOf k) π v) (T τ v (req τ (kindOf k) π v)) (T τ v (req τ (kindOf k) π v))
-  unfolding cand second
-  cand-1 zero π n v e = absurd (e refl)
-  cand-1 (suc k) π n v e = refl
-
-  pub over-0 : (k w : ℕ) (s t : State) → k ≡ 0 → wireOf τ (kindOf k) w s t ≡ via τ (kindOf k) 0 w s
-  unfolding wireOf
-  over-0 zero w s t e = refl
-  over-0 (suc k) w s t e = absurd (omega arith)
-
-  pub over-1 : (k w : ℕ) (s t : State) → (k ≡ 0 → ⊥) → wireOf τ (kindOf k) w s t ≡ merge (via τ (kindOf k) 0 w s) (via τ (kindOf k) 1 w t)
-  unfolding wireOf
-  over-1 zero w s t e = absurd (e refl)
-  over-1 (suc k) w s t e = refl
 
   pub via-lost : (κ : Kind) (π w : ℕ) (s : State) → s ≡ lost → via τ κ π w s ≡ lost
   unfolding via
@@ -152,8 +121,8 @@ model-is {c} ok = let e : c .span ≡ c .limit - c .pin = omega (arith, ok .eq) 
 pub ceil-le : {c : code.Cell} → CellOk c → (v : ℕ) → v ≤ 11000000 → ceil (modelOf c) v ≤ 11000000
 ceil-le {c} k v h = ceil-few (modelOf c) (k .eq) (k .pos) (k .small) v h
 
-pub req-le : {c : code.Cell} → CellOk c → (π v : ℕ) → v ≤ 11000000 → req (modelOf c) (kindOf (c .repeater)) π v ≤ 11000001
-req-le {c} k π v h = req-few (modelOf c) (k .eq) (k .pos) (k .small) (kindOf (c .repeater)) π v h
+pub req-le : {c : code.Cell} → CellOk c → (π v : ℕ) → v ≤ 11000000 → req (modelOf c) inv π v ≤ 11000001
+req-le {c} k π v h = req-few (modelOf c) (k .eq) (k .pos) (k .small) inv π v h
 
-pub req-room : {c : code.Cell} → CellOk c → (π v r : ℕ) → v ≤ 11000000 → r ≡ req (modelOf c) (kindOf (c .repeater)) π v → r * c .span ≤ 2000000000
-req-room {c} k π v r h e = rw e (req-mul (modelOf c) (k .eq) (k .pos) (k .small) (kindOf (c .repeater)) π v h)
+pub req-room : {c : code.Cell} → CellOk c → (π v r : ℕ) → v ≤ 11000000 → r ≡ req (modelOf c) inv π v → r * c .span ≤ 2000000000
+req-room {c} k π v r h e = rw e (req-mul (modelOf c) (k .eq) (k .pos) (k .small) π v h)

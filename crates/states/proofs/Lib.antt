@@ -1,2 +1,3 @@
 pub mod Leaves
 pub mod Sinks
+pub mod Short

@@ -1,9 +1,10 @@
-// The frontier's numbers at one wire: what it hands up over a node's state, by its repeaters. No tables here.
+// The frontier's numbers at one wire: what it hands up over a node's state, by its inverters. No tables here.
 ghost use mathlib.Core.Path.{_≡_};
 ghost use Prim.Native.Nat.{_+_, _-_, _*_, _<_, _≤_, min, max};
-ghost use Rattle.frontier.specs.Frontier.{T, mergeBy};
-ghost use Rattle.frontier.specs.Cell.{cellOf, kindOf};
-ghost use Rattle.states.specs.States.{modelOf, limitsOf, st, CellOk, Small, wireOf};
+ghost use Rattle.rules.specs.Figures.{mostWire};
+ghost use Rattle.frontier.specs.Frontier.{lost, T, mergeBy};
+ghost use Rattle.frontier.specs.Cell.{cellOf, inv};
+ghost use Rattle.states.specs.States.{modelOf, limitsOf, st, CellOk, Small, Falls, wireOf, Lifted};
 
 // The limit C_U, the repeater's pin C_b, what is left of the limit beside the pin, and 1 for an inverter.
 pub struct Cell {
@@ -62,20 +63,20 @@ pub fn ceil(c: Cell, v: u64) -> u64
     requires { ⌜ v ≤ 11000000 ⌝ }
     ensures { λ r. ⌜ r ≡ Rattle.frontier.specs.Frontier.ceil (modelOf c) v ⌝ }
 {
+    if v <= c.limit {
+        return 0;
+    }
     let d = c.span;
-    (less(v, c.limit) + (d - 1)) / d
+    ((v - c.limit) + (d - 1)) / d
 }
 
-// The same, of the parity that an inverter asks.
+// The same, of the parity that inverters ask.
 pub fn req(c: Cell, odd: u64, v: u64) -> u64
     requires { ⌜ CellOk c ⌝ }
     requires { ⌜ (v ≤ 11000000) × (odd ≤ 1) ⌝ }
-    ensures { λ r. ⌜ r ≡ Rattle.frontier.specs.Frontier.req (modelOf c) (kindOf (c .repeater)) odd v ⌝ }
+    ensures { λ r. ⌜ r ≡ Rattle.frontier.specs.Frontier.req (modelOf c) inv odd v ⌝ }
 {
     let r = ceil(c, v);
-    if c.repeater == 0 {
-        return r;
-    }
     r + (r + odd) % 2
 }
 
@@ -93,16 +94,14 @@ pub fn top(c: Cell, v: u64, r: u64) -> u64
     most(c.pin, less(v, x))
 }
 
-pub fn cand(c: Cell, odd: u64, n: u64, v: u64) -> Side
+// Over a node with the count n, v its load and the wire's size.
+fn cand(c: Cell, odd: u64, n: u64, v: u64) -> Side
     requires { ⌜ CellOk c ⌝ }
     requires { ⌜ (v ≤ 11000000) × (odd ≤ 1) × (n ≤ 1000000000000) ⌝ }
-    ensures { λ r. ⌜ st r ≡ Rattle.frontier.specs.Frontier.cand (modelOf c) (kindOf (c .repeater)) odd n v ⌝ }
+    ensures { λ r. ⌜ st r ≡ Rattle.frontier.specs.Frontier.cand (modelOf c) inv odd n v ⌝ }
 {
     let r = req(c, odd, v);
     let t = top(c, v, r);
-    if c.repeater == 0 {
-        return Side::Has(n + r, t, least(t, c.pin));
-    }
     Side::Has(n + r, t, t)
 }
 
@@ -139,10 +138,10 @@ pub fn merge(s: Side, t: Side) -> Side
 }
 
 // A wire of size w over a node's state.
-pub fn via(c: Cell, odd: u64, w: u64, s: Side) -> Side
+fn via(c: Cell, odd: u64, w: u64, s: Side) -> Side
     requires { ⌜ CellOk c ⌝ }
-    requires { ⌜ (w ≤ 10000000) × (odd ≤ 1) × Small 500000000000 s ⌝ }
-    ensures { λ r. ⌜ st r ≡ Rattle.frontier.specs.Frontier.via (modelOf c) (kindOf (c .repeater)) odd w (st s) ⌝ }
+    requires { ⌜ (w ≤ mostWire) × (odd ≤ 1) × Small 500000000000 s ⌝ }
+    ensures { λ r. ⌜ st r ≡ Rattle.frontier.specs.Frontier.via (modelOf c) inv odd w (st s) ⌝ }
 {
     let Side::Has(n, a, b) = s else {
         return Side::Lost;
@@ -153,30 +152,83 @@ pub fn via(c: Cell, odd: u64, w: u64, s: Side) -> Side
 }
 
 // Over the node's states at the wire's own polarity and at the other one.
-pub fn over(c: Cell, w: u64, same: Side, other: Side) -> Side
+fn over(c: Cell, w: u64, same: Side, other: Side) -> Side
     requires { ⌜ CellOk c ⌝ }
-    requires { ⌜ (w ≤ 10000000) × Small 500000000000 same × Small 500000000000 other ⌝ }
-    ensures { λ r. ⌜ st r ≡ wireOf (modelOf c) (kindOf (c .repeater)) w (st same) (st other) ⌝ }
+    requires { ⌜ (w ≤ mostWire) × Small 500000000000 same × Small 500000000000 other ⌝ }
+    ensures { λ r. ⌜ st r ≡ wireOf (modelOf c) inv w (st same) (st other) ⌝ }
 {
-    if c.repeater == 0 {
-        return via(c, 0, w, same);
-    }
     let x = via(c, 0, w, same);
     let y = via(c, 1, w, other);
     merge(x, y)
 }
 
-// A sink's state.
-pub fn leaf(c: Cell, pin: u64, polarity: u8, q: u8) -> Side
+// At both polarities.
+pub struct Sides {
+    pub plus: Side,
+    pub minus: Side,
+}
+
+// By division.
+fn lift_long(c: Cell, w: u64, p: Side, q: Side) -> Sides
     requires { ⌜ CellOk c ⌝ }
-    ensures { λ r. ⌜ st r ≡ Rattle.frontier.specs.Frontier.leaf (modelOf c) pin polarity q ⌝ }
-    ensures { λ r. ⌜ Small 500000000000 r ⌝ }
+    requires { ⌜ (w ≤ mostWire) × Small 500000000000 p × Small 500000000000 q ⌝ }
+    ensures { λ r. ⌜ Lifted (modelOf c) w (st p) (st q) r ⌝ }
 {
-    if polarity != q {
-        return Side::Lost;
+    Sides {
+        plus: over(c, w, p, q),
+        minus: over(c, w, q, p),
     }
-    if c.limit < pin {
-        return Side::Lost;
+}
+
+// Over the minus polarity alone.
+fn lift_minus(c: Cell, w: u64, q: Side) -> Sides
+    requires { ⌜ CellOk c ⌝ }
+    requires { ⌜ (w ≤ mostWire) × Small 500000000000 q × Falls (st q) ⌝ }
+    ensures { λ r. ⌜ Lifted (modelOf c) w lost (st q) r ⌝ }
+{
+    let Side::Has(n, a, b) = q else {
+        return Sides {
+            plus: Side::Lost,
+            minus: Side::Lost,
+        };
+    };
+    let x = w + a;
+    if c.limit < x {
+        return lift_long(c, w, Side::Lost, q);
     }
-    Side::Has(0, pin, pin)
+    Sides {
+        plus: Side::Has(n + 1, c.pin, c.pin),
+        minus: Side::Has(n, x, w + b),
+    }
+}
+
+// A wire of size w over its node's two states. One whose load fits takes no inverter, or one that hands up its pin.
+pub fn lift(c: Cell, w: u64, s: Sides) -> Sides
+    requires { ⌜ CellOk c × (w ≤ mostWire) ⌝ }
+    requires { ⌜ Small 500000000000 (s .plus) × Small 500000000000 (s .minus) × Falls (st (s .plus)) × Falls (st (s .minus)) ⌝ }
+    ensures { λ r. ⌜ Lifted (modelOf c) w (st (s .plus)) (st (s .minus)) r ⌝ }
+{
+    let p = s.plus;
+    let q = s.minus;
+    let Side::Has(n, a, b) = p else {
+        return lift_minus(c, w, q);
+    };
+    let x = w + a;
+    if c.limit < x {
+        return lift_long(c, w, p, q);
+    }
+    let Side::Has(m, d, e) = q else {
+        return Sides {
+            plus: Side::Has(n, x, w + b),
+            minus: Side::Has(n + 1, c.pin, c.pin),
+        };
+    };
+    let y = w + d;
+    if c.limit < y {
+        return lift_long(c, w, p, q);
+    }
+    Sides {
+        plus: better(n, x, w + b, m + 1, c.pin, c.pin),
+        minus: better(m, y, w + e, n + 1, c.pin, c.pin),
+    }
 }

@@ -1,4 +1,1 @@
-pub mod Trees
-pub mod Bounds
-pub mod Filling
-pub mod Ready
+pub mod Turning

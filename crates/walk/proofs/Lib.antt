@@ -1,8 +1,3 @@
-pub mod Walking
-pub mod Ending
-pub mod Going
-pub mod Placing
-pub mod Cutting
-pub mod Deciding
-pub mod Noting
-pub mod UnderWay
+pub mod Settling
+pub mod Wiring
+pub mod Stepping

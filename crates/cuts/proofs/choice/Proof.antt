@@ -7,14 +7,8 @@ use borrow.Author.Needs.{needs}
 use Rattle.cuts.proofs.choice.Statement.{statement}
 use Rattle.cuts.proofs.choice.Tie as tie
 
-enum-known-s : tie.Need-enum-known-s
-enum-known-s c = search needs
-
-enum-told : tie.Need-enum-told
-enum-told c = search needs
-
 returns : tie.Need-returns
-returns c = met-lost _ _ _ _ _ _ _ (ap st (c .enum-told .given .1))
+returns c = met-lost _ _ _ _ _ _ (ap st (c .enum-told .given .1))
 
 add-choice-at : tie.Need-add-choice-at
 add-choice-at c = let h = subst (Small 500000000000) (c .before .s .given .1) (c .before .before .before .pre .1 .2) in omega arith
@@ -22,14 +16,8 @@ add-choice-at c = let h = subst (Small 500000000000) (c .before .s .given .1) (c
 choice-at-requires : tie.Need-choice-at-requires
 choice-at-requires c κs = let h = subst (Small 500000000000) (c .before .s .given .1) (c .before .before .before .pre .1 .2) in (c .before .before .before .pre .0, omega arith)
 
-enum-told-2 : tie.Need-enum-told-2
-enum-told-2 c = search needs
-
 returns-2 : tie.Need-returns-2
-returns-2 c = choice-first _ _ _ _ _ _ _ _ _ _ (ap st (c .before .before .before .before .s .given .1)) _ _ _ _ _ (c .enum-told2 .given .1) (c .before .before .choice-at .ensures)
-
-enum-told-3 : tie.Need-enum-told-3
-enum-told-3 c = search needs
+returns-2 c = choice-first _ _ _ _ _ _ _ _ _ (ap st (c .before .before .before .before .s .given .1)) _ _ _ _ (c .enum-told2 .given .1) (c .before .before .choice-at .ensures)
 
 add-choice-at-2 : tie.Need-add-choice-at-2
 add-choice-at-2 c = let h = subst (Small 500000000000) (c .before .before .before .before .s .given .1) (c .before .before .before .before .before .before .pre .1 .2) in omega arith
@@ -41,20 +29,20 @@ choice-at-requires-2 : tie.Need-choice-at-requires-2
 choice-at-requires-2 c κs = let h = subst (Small 500000000000) (c .before .before .before .before .s .given .1) (c .before .before .before .before .before .before .pre .1 .2) in (c .before .before .before .before .before .before .pre .0, omega arith)
 
 returns-3 : tie.Need-returns-3
-returns-3 c = choice-second _ _ _ _ _ _ _ _ _ _ (ap st (c .before .before .before .before .before .s .given .1)) (c .before .before .before .choice-at .result) (c .choice-at2 .result) (c .before .enum-told3 .given .1) (c .before .before .before .choice-at .ensures) (c .choice-at2 .ensures)
+returns-3 c = choice-second _ _ _ _ _ _ _ _ _ (ap st (c .before .before .before .before .before .s .given .1)) (c .before .before .before .choice-at .result) (c .choice-at2 .result) (c .before .enum-told3 .given .1) (c .before .before .before .choice-at .ensures) (c .choice-at2 .ensures)
 
 pub choice-spec : {M : Type 1} → statement M
 choice-spec =
     tie.close
     (tie.spec
-    enum-known-s
-    enum-told
+    (λ c. search needs)
+    (λ c. search needs)
     returns
     add-choice-at
     choice-at-requires
-    enum-told-2
+    (λ c. search needs)
     returns-2
-    enum-told-3
+    (λ c. search needs)
     add-choice-at-2
     add-choice-at-3
     choice-at-requires-2

@@ -1,32 +1,29 @@
--- A node's state out of its row: the first surplus that fits is the frontier's, and its numbers stay small.
+-- A node's state: none where a wire has none, the slot's two loads where the first of them fits, and else read off the row.
+use mathlib.Core.Path.{refl, _∙_}
 use native.Mathlib.Omega.{arith}
-use lib.ListN.{getD}
 use borrow.Author.Needs.{needs}
-use Rattle.rows.proofs.Closing.{close-dead, close-none, close-fit, count-small}
+use Rattle.surplus.proofs.Tails.{close-dead, close-fits, close-runs, rows-few, rows-close}
 use Rattle.rows.proofs.close.Statement.{statement}
 use Rattle.rows.proofs.close.Tie as tie
 
 returns : tie.Need-returns
-returns c = (close-dead _ _ _ _ (c .if1 .taken), tt)
+returns c = (λ f a. close-dead a (c .if1 .taken), refl)
 
 returns-2 : tie.Need-returns-2
-returns-2 c = let s = c .before .before .before .before .before .before .args in (close-none _ _ _ _ _ (c .before .first-fit .ensures) (getD (s .counts .now) (s .k) 0) (c .if2 .taken), tt)
+returns-2 c = (λ f a. rw (c .lower .ensures) (close-fits a (c .before .before .before .before .before .if1 .left) (omega (arith, c .before .before .before .wide .ensures, c .before .if2 .taken))), refl)
 
-add-t18 : tie.Need-add-t18
-add-t18 c =
-    let s = c .before .before .before .before .before .before .before .before in
-    let f = c .before .before .before .first-fit .ensures in
-    omega (arith, count-small (getD (s .args .counts .now) (s .args .k) 0) _ (c .before .before .before .before .if1 .left) (s .pre .1 .1), f .few)
+spread-requires : tie.Need-spread-requires
+spread-requires c κs = let s = c .before .before .before .before .before .before .before .before .pre in ((s .0 .1, s .0 .3), record { f = s .1 .f; runs = close-runs (s .1 .asks) (c .before .before .before .before .before .if1 .left) })
+
+close-row-requires : tie.Need-close-row-requires
+close-row-requires c κs =
+    let s = c .before .before .before .before .before .before .before .before .before .before .before .before .pre in
+    let a = close-runs (s .1 .asks) (c .before .before .before .before .before .before .before .before .before .if1 .left) in
+    let r = c .before .before .before .spread .ensures in
+    (s .0 .0, rows-few a _ _ (r .0 (s .1 .f) a), r .1 ∙ s .0 .3)
 
 returns-3 : tie.Need-returns-3
-returns-3 c =
-    let s = c .before .before .before .before .before .before .before .before .before in
-    let f = c .before .before .before .before .first-fit .ensures in
-    let ne = c .before .before .before .before .before .if1 .left in
-    let fits = f .fits (c .before .before .before .if2 .left) in (
-      rw (c .least .ensures, c .before .before .load-at .ensures, c .before .load-at2 .ensures) (close-fit _ _ _ _ _ f _ ne (c .before .before .before .if2 .left)),
-      (omega (arith, count-small (getD (s .args .counts .now) (s .args .k) 0) _ ne (s .pre .1 .1), f .few), omega (arith, s .pre .1 .0 .small, fits, c .before .before .load-at .ensures), omega (arith, s .pre .1 .0 .small, fits, c .before .before .load-at .ensures, c .least .ensures)),
-    )
+returns-3 c = let r = c .before .before .before .before .spread .ensures in (λ f a. rows-close _ _ _ _ _ _ _ f (r .0 f (close-runs a (c .before .before .before .before .before .before .before .before .before .before .if1 .left))) (c .close-row .ensures), r .1)
 
 pub close-spec : {M : Type 1} → statement M
 close-spec =
@@ -34,16 +31,17 @@ close-spec =
     (tie.spec
     (λ c. search needs)
     (λ c. search needs)
+    (λ c. search needs)
+    (λ c. search needs)
     returns
     (λ c. search needs)
     (λ c. search needs)
     (λ c. search needs)
     (λ c κs. search needs)
+    (λ c. search needs)
+    (λ c κs. search needs)
     returns-2
-    (λ c κs. search needs)
+    spread-requires
+    close-row-requires
     (λ c. search needs)
-    (λ c κs. search needs)
-    (λ c. search needs)
-    add-t18
-    (λ c κs. search needs)
     returns-3)

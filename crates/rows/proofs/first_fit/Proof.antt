@@ -3,8 +3,8 @@ use native.Mathlib.Omega.{arith}
 use Prim.Native.Nat.{ℕ, suc, _-_, _≤_, _<_}
 use mathlib.Core.Path.{sym}
 use borrow.Author.Needs.{needs}
-use Rattle.rows.specs.Rows.{loadAt}
-use Rattle.rows.proofs.Reading.{load-within}
+use Rattle.surplus.specs.Rows.{loadAt}
+use Rattle.surplus.proofs.Reading.{load-within}
 use borrow.Author.Count.{below-more}
 use Rattle.rows.proofs.first_fit.Statement.{statement}
 use Rattle.rows.proofs.first_fit.Tie as tie

@@ -2,7 +2,7 @@
 use native.Mathlib.Omega.{arith}
 use mathlib.Core.Path.{_∙_}
 use borrow.Author.Needs.{needs}
-use Rattle.rows.proofs.Reading.{load-within, load-past}
+use Rattle.surplus.proofs.Reading.{load-within, load-past}
 use Rattle.rows.proofs.load_at.Statement.{statement}
 use Rattle.rows.proofs.load_at.Tie as tie
 

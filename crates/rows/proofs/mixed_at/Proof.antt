@@ -2,8 +2,8 @@
 use native.Mathlib.Omega.{arith}
 use Prim.Native.Nat.{_-_}
 use borrow.Author.Needs.{needs}
-use Rattle.rows.specs.Rows.{loadAt}
-use Rattle.rows.proofs.Reading.{mixed-0, mixed-1, mixed-2}
+use Rattle.surplus.specs.Rows.{loadAt}
+use Rattle.surplus.proofs.Reading.{mixed-0, mixed-1, mixed-2}
 use Rattle.rows.proofs.mixed_at.Statement.{statement}
 use Rattle.rows.proofs.mixed_at.Tie as tie
 

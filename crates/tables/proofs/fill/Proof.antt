@@ -1,62 +1,69 @@
--- The loop keeps that the tables hold the wires from i on; it ends with all of them.
+-- The pass from the last node to the first wire, and the source's own state at its end.
 use native.Mathlib.Omega.{arith}
-use Prim.Native.Nat.{suc, _-_, _≤_}
-use mathlib.Core.Path.{_≡_, _∙_}
+use Prim.Native.Nat.{ℕ, suc, _-_, _≤_, _<_}
+use mathlib.Core.Path.{_≡_, refl, subst, _∙_}
+use mathlib.Core.List.{List}
 use lib.ListN.{length}
-use borrow.Author.Needs.{needs}
-use Rattle.rules.specs.Net.{net}
+use Rattle.rules.specs.Net.{Net, net}
+use Rattle.frontier.specs.Cell.{Cell}
 use Rattle.states.specs.States.{modelOf, limitsOf}
-use Rattle.tables.specs.Tables.{tables, Filled}
-use Rattle.tables.proofs.Filling.{Same}
+use Rattle.surplus.specs.Tables.{Filled}
 use Rattle.tables.proofs.fill.Statement.{statement}
 use Rattle.tables.proofs.fill.Tie as tie
 
+-- a turn begins with the wires after its own, and the last leaves those from 1 on
+module _ {τ : Cell} {n : Net} {links : List ℕ} {slots : List (List ℕ)} {sums : List ℕ} {near : List (List ℕ)} {i : ℕ} (f : Filled τ n links slots sums near i) where
+  before : 1 < i → Filled τ n links slots sums near (suc (i - 1))
+  before l = let e : i ≡ suc (i - 1) = omega arith in subst (Filled τ n links slots sums near) e f
+
+  last : 1 ≤ i → i ≤ 1 → Filled τ n links slots sums near 1
+  last l h = let e : i ≡ 1 = omega arith in subst (Filled τ n links slots sums near) e f
+
 abbrev Inv-loop : tie.InvT-loop
-Inv-loop c parent wire kind pin polarity rows₀ many₀ next₀ head₀ plus₀ plus-load₀ plus-more₀ minus₀ minus-load₀ minus-more₀ i₀ rows many next head plus plus-load plus-more minus minus-load minus-more i =
-    (1 ≤ i) × (i ≤ length parent) × Filled (modelOf c) (net (limitsOf c) parent wire kind pin polarity) (tables rows many next head plus plus-load plus-more minus minus-load minus-more) i
-    × Same (tables rows₀ many₀ next₀ head₀ plus₀ plus-load₀ plus-more₀ minus₀ minus-load₀ minus-more₀) (tables rows many next head plus plus-load plus-more minus minus-load minus-more)
+Inv-loop c parent wire kind pin polarity rows₀ links₀ slots₀ sums₀ near₀ i₀ rows links slots sums near i =
+    (1 ≤ i) × (i ≤ length parent) × Filled (modelOf c) (net (limitsOf c) parent wire kind pin polarity) links slots sums near i × (length rows ≡ length rows₀)
 
 abbrev μ-loop : tie.MeasureT-loop
-μ-loop c parent wire kind pin polarity rows₀ many₀ next₀ head₀ plus₀ plus-load₀ plus-more₀ minus₀ minus-load₀ minus-more₀ i₀ rows many next head plus plus-load plus-more minus minus-load minus-more i = i
+μ-loop c parent wire kind pin polarity rows₀ links₀ slots₀ sums₀ near₀ i₀ rows links slots sums near i = i
 
 loop-holds : tie.Need-loop-holds Inv-loop μ-loop
 loop-holds c =
-    let s = c .before .before .before .before .before .before .before .before .before .before .before .before .before .before .before in
-    (s .pre .0 .1 .some, omega arith, s .pre .1, search needs)
+    let s = c .before .before .before .before .before .before in
+    (s .pre .0 .2 .some, omega arith, s .pre .1, refl)
+
+sub-i : tie.Need-sub-i Inv-loop μ-loop
+sub-i c = c .before .loop .inv .0
 
 push-requires : tie.Need-push-requires Inv-loop μ-loop
 push-requires c κs =
-    let s = c .before .before .before .before .before .before .before .before .before .before .before .before .before .before .before .before .before .before .before .before .before .before .before .before .before .before .before in
-    let l = c .before .before .before .before .before .before .before .before .before .before .before .loop in
-    let e : suc (l .i - 1) ≡ l .i = omega arith in
-    (s .pre .0, (omega arith, omega arith, rw e (l .inv .2)))
+    let s = c .before .before .before .before .before .before .before .before .before .before .before .before .before in
+    let (lo, hi, f, l) = c .before .before .before .before .before .before .loop .inv in
+    let (ok, one, sound, room) = s .pre .0 in
+    ((ok, one, sound, l ∙ room), (omega (arith, c .before .before .before .before .before .loop-test .taken), omega arith, before f (c .before .before .before .before .before .loop-test .taken)))
 
 loop-less : tie.Need-loop-less Inv-loop μ-loop
-loop-less c = omega (arith, c .before .before .before .before .before .before .before .before .before .before .before .before .before .before .before .before .before .before .before .before .before .before .before .before .before .before .before .before .before .before .before)
+loop-less c = omega (arith, c .before .before .before .before .before .before .before .before .loop-test .taken)
 
 loop-again : tie.Need-loop-again Inv-loop μ-loop
 loop-again c =
-    let l = c .before .before .before .before .before .before .before .before .before .before .before .before .before .before .before .before .before .before .before .before .before .before .before .before .before .before .before .before .before .before .before .before .loop in
-    let same = l .inv .3 in (
-      omega (arith, c .before .before .before .before .before .before .before .before .before .before .before .before .before .before .before .before .before .before .before .before .before .before .before .before .before .before .before .before .before .before .before),
-      omega (arith, c .before .before .before .before .before .before .before .before .before .before .before .before .before .before .before .before .before .before .before .before .before .before .before .before .before .before .before .before .before .before .before),
-      c .before .before .before .before .before .before .before .before .before .before .before .before .before .before .before .before .before .before .before .before .push .ensures,
-      record {
-        rows = c .before .before .before .before .before .before .before .before .before .before .before .before .before .before .before .before .before .before .before .rows .given ∙ same .rows;
-        many = c .before .before .before .before .before .before .before .before .before .before .before .before .before .before .before .before .before .many .given ∙ same .many;
-        next = c .before .before .before .before .before .before .before .before .before .before .before .before .before .before .before .next .given ∙ same .next;
-        head = c .before .before .before .before .before .before .before .before .before .before .before .before .before .head .given ∙ same .head;
-        plus = c .before .before .before .before .before .before .before .before .before .before .before .plus .given ∙ same .plus;
-        plus-load = c .before .before .before .before .before .before .before .before .before .plus-load .given ∙ same .plus-load;
-        plus-more = c .before .before .before .before .before .before .before .plus-more .given ∙ same .plus-more;
-        minus = c .before .before .before .before .before .minus .given ∙ same .minus;
-        minus-load = c .before .before .before .minus-load .given ∙ same .minus-load;
-        minus-more = c .before .minus-more .given ∙ same .minus-more;
-      },
-    )
+    let (lo, hi, f, l) = c .before .before .before .before .before .before .before .before .before .loop .inv in
+    (omega (arith, c .before .before .before .before .before .before .before .before .loop-test .taken), omega arith, c .before .before .push .ensures .0, c .before .before .push .ensures .1 ∙ l)
+
+close-node-requires : tie.Need-close-node-requires Inv-loop μ-loop
+close-node-requires c κs =
+    let s = c .before .before .before .before .before .before .before .before .before .before .before .before .before in
+    let (lo, hi, f, l) = c .before .before .before .before .before .before .loop .inv in
+    let (ok, one, sound, room) = s .pre .0 in
+    let d = last f lo (c .before .before .before .before .before .loop-test .left) in
+    ((ok, sound, sound .some, l ∙ room), (d .joined, d .closed))
+
+same-length : tie.Need-same-length Inv-loop μ-loop
+same-length c = c .before .before .close-node .ensures .1 ∙ c .before .before .before .before .before .before .before .before .before .loop .inv .3
 
 returns : tie.Need-returns Inv-loop μ-loop
-returns c = let l = c .before .loop in let e : l .i ≡ 1 = omega arith in rw e at (l .inv .2)
+returns c =
+    let (lo, hi, f, l) = c .before .before .before .before .before .before .before .before .before .loop .inv in
+    ((last f lo (c .before .before .before .before .before .before .before .before .loop-test .left) .joined, c .before .before .close-node .ensures .0), c .before .before .close-node .ensures .1 ∙ l)
 
 pub fill-spec : {M : Type 1} → statement M
 fill-spec =
@@ -65,18 +72,10 @@ fill-spec =
     Inv-loop
     μ-loop
     loop-holds
-    (λ c. search needs)
+    sub-i
     push-requires
     loop-less
     loop-again
-    (λ c. search needs)
-    (λ c. search needs)
-    (λ c. search needs)
-    (λ c. search needs)
-    (λ c. search needs)
-    (λ c. search needs)
-    (λ c. search needs)
-    (λ c. search needs)
-    (λ c. search needs)
-    (λ c. search needs)
+    close-node-requires
+    same-length
     returns)

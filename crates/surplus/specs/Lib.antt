@@ -1,0 +1,10 @@
+pub mod Rows
+pub mod Wires
+pub mod Pairs
+pub mod Links
+pub mod Dealt
+pub mod Choice
+pub mod Walk
+pub mod Tables
+pub mod Asks
+pub mod Descent
