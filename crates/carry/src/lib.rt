@@ -26,21 +26,15 @@ pub enum Outcome {
 fn limits_ease(a: Limits, b: Limits) -> bool
     ensures { λ r. ⌜ r ≡ limitsEase a b ⌝ }
 {
-    net::and(
-        a.limit <= b.limit,
-        net::and(b.pin <= a.pin, b.repeater == a.repeater),
-    )
+    (a.limit <= b.limit) & ((b.pin <= a.pin) & (b.repeater == a.repeater))
 }
 
 // The second node: wire and pin no higher, all else equal.
 fn node_eases(a: Node, b: Node) -> bool
     ensures { λ r. ⌜ r ≡ nodeEases a b ⌝ }
 {
-    let ends = net::and(
-        b.kind == a.kind,
-        net::and(b.pin <= a.pin, b.polarity == a.polarity),
-    );
-    net::and(b.parent == a.parent, net::and(b.wire <= a.wire, ends))
+    let end = (b.kind == a.kind) & ((b.pin <= a.pin) & (b.polarity == a.polarity));
+    (b.parent == a.parent) & ((b.wire <= a.wire) & end)
 }
 
 // The smaller of two numbers.

@@ -1,59 +1,26 @@
 -- The judge's steps: what each test that was met or failed makes of the answer, and what one node more makes of the counts.
-use Prim.Native.Nat.{ℕ, zero, suc, _+_, _-_, _≤_, _<_}
-use mathlib.Core.Path.{_≡_, refl, sym, ap, subst, _∙_}
+use Prim.Native.Nat.{ℕ, _+_, _≤_, _<_}
+use mathlib.Core.Path.{_≡_, sym, ap, subst, _∙_}
+use mathlib.Core.Bool.{Bool, true, false, not}
 use mathlib.Core.List.{List}
 use native.Mathlib.Omega.{arith}
-use native.Mathlib.Decide.{ℕ-discrete, decLt}
-use lib.ListN.{length, getD, set, length-set, replicate, length-replicate, getD-replicate, List·getD-eq-default}
-use lib.Seq.{getD-set-same, getD-set-other}
+use lib.ListN.{length, getD, set}
 use lib.Dec.{eqb, ltb, leb}
-use borrow.Author.Tests.{eq-eqb, ne-eqb, eqb-true, ltb-true, leb-true}
-use mathlib.Core.Bool.{true, false}
-use Rattle.rules.specs.Figures.{mostPlaces}
-use Rattle.rules.specs.declared.Refusal.the-variants.{OutOfRange, WrongColumns}
-use Rattle.rules.proofs.Tests.{both-met}
-use Rattle.rules.proofs.Each.{each-same}
+use borrow.Author.Tests.{eqb-true, ltb-true, leb-true, not-true, not-false}
 use Rattle.rules.specs.declared.Refusal.{Refusal}
+use Rattle.rules.specs.declared.Refusal.the-variants.{OutOfRange, WrongColumns}
 use Rattle.rules.specs.declared.Judged.{Judged}
 use Rattle.rules.specs.declared.Judged.the-variants.{Sound, Refused}
 use Rattle.rules.specs.declared.Node.{Node}
-use Rattle.rules.specs.Net.{Net, places, parent, kind, node}
-use Rattle.rules.specs.Judge.{thenJudge, columnsFit, limitsInRange, sourceClear, children, admitted, nodeJudged, nodesJudged, childedBy, childed, judged}
+use Rattle.rules.specs.Figures.{mostPlaces}
+use Rattle.rules.specs.Net.{Net, places, parent, node}
+use Rattle.rules.specs.Judge.{columnsFit, limitsInRange, sourceClear, admitted, nodeJudged, nodesJudged, childed, judged}
+use Rattle.rules.proofs.Tests.{both-met}
 use Rattle.rules.proofs.SoundSays.{NodeSound, node-sound}
-use Rattle.net.specs.Counted.{Level, Tallied, NodesJudged}
-
--- no child is counted yet
-pub tallied-start : (n : Net) → Tallied n (replicate mostPlaces 0) 1
-unfolding children
-tallied-start n = record { long = length-replicate {A = ℕ} mostPlaces 0; each = λ v. zero-at v (decLt v mostPlaces) }
-  where
-    zero-at : (v : ℕ) → Dec (v < mostPlaces) → getD {A = ℕ} (replicate mostPlaces 0) v 0 ≡ 0
-    zero-at v (yes h) = getD-replicate {A = ℕ} mostPlaces v 0 0 h
-    zero-at v (no h) = let e : length {A = ℕ} (replicate mostPlaces 0) ≤ v = omega (arith, length-replicate {A = ℕ} mostPlaces 0) in List·getD-eq-default (replicate mostPlaces 0) 0 e
-
--- by the counts the judge knows who is childless
-pub childed-is : {n : Net} {counts : List ℕ} → Tallied n counts (places n) → childedBy (kind n) (λ j. getD counts j 0) (places n) ≡ childed n
-childed-is {n} {counts} t = each-same _ _ (places n) 0 (λ j lo hi. rw (t .each j))
-
--- one child more
-tallied-next : {n : Net} {counts : List ℕ} {i : ℕ} → Tallied n counts i → 1 ≤ i → parent n i < 1025 → Tallied n (set counts (parent n i) (getD counts (parent n i) 0 + 1)) (i + 1)
-unfolding children
-tallied-next {n} {counts} {i} t lo hi = record { long = simp length-set (t .long); each = each }
-  where
-    p : ℕ
-    p = parent n i
-
-    each : (v : ℕ) → getD (set counts (parent n i) (getD counts (parent n i) 0 + 1)) v 0 ≡ children n (i + 1 - 1) v
-    each v =
-        let e : i + 1 - 1 ≡ suc (i - 1) = omega arith in
-        let s : suc (i - 1) ≡ i = omega arith in
-        elim (ℕ-discrete (parent n i) v) [
-          | yes q ↦ (
-              let same : getD (set counts (parent n i) (getD counts (parent n i) 0 + 1)) (parent n i) 0 ≡ getD counts (parent n i) 0 + 1 = getD-set-same counts (parent n i) (getD counts (parent n i) 0 + 1) 0 (omega (arith, t .long)) in
-              rw (← q, e, s, eq-eqb (parent n i) (parent n i) refl, same) (omega (arith, t .each (parent n i)))
-              )
-          | no q ↦ rw (e, s, ne-eqb (parent n i) v q, getD-set-other counts (parent n i) v (getD counts (parent n i) 0 + 1) 0 (λ z. q (sym z))) (omega (arith, t .each v))
-        ]
+use Rattle.screen.specs.Screened.{Passed}
+use Rattle.net.specs.Counted.{Within, Level, Tallied, NodesJudged, treeJudged}
+use Rattle.screen.proofs.Tallying.{tallied-next}
+pub use Rattle.screen.proofs.Tallying.{tallied-start}
 
 -- what `admit` answers of node i
 module _ {n : Net} {counts : List ℕ} {i : ℕ} {d : Node} {r : Judged} (t : Tallied n counts i) (is : d ≡ node n i) (e : r ≡ admitted (n .limits) d i (getD (n .kinds) (d .parent) 0) (getD counts (d .parent) 0) i) where
@@ -81,6 +48,18 @@ pub nodes-sound : {n : Net} {counts : List ℕ} {i : ℕ} → Level n → Tallie
 nodes-sound {n} {counts} {i} v t lo hi is = record { is = is; counted = λ s. let e : i ≡ places n = omega arith in subst (Tallied n counts) e t }
 
 -- ---- the judge, test by test
+
+-- what a call's answer says of the test that it is
+pub passed : {r t : Bool} → r ≡ t → not r ≡ false → t ≡ true
+passed {r} e q = sym e ∙ not-false r q
+
+pub failed : {r t : Bool} → r ≡ t → not r ≡ true → t ≡ false
+failed {r} e q = sym e ∙ not-true r q
+
+-- columns that are level have a place for each node
+pub within : {n : Net} → Level n → (i : ℕ) → i < places n → Within i (n .parents) (n .wires) (n .kinds) (n .pins) (n .polarities)
+within v i h = record { parents = h; wires = rw (v .wires) h; kinds = rw (v .kinds) h; pins = rw (v .pins) h; polarities = rw (v .polarities) h }
+
 module _ (n : Net) where
   pub level : columnsFit n ≡ true → Level n
   level fit =
@@ -110,12 +89,19 @@ module _ (n : Net) where
   unfolding judged
   judged-source a b c = rw (a, b, c)
 
-  judged-rest : columnsFit n ≡ true → limitsInRange (n .limits) ≡ true → sourceClear n ≡ true → judged n ≡ thenJudge (nodesJudged n) (childed n)
-  unfolding judged
-  judged-rest a b c = rw (a, b, c)
+  pub judged-rest : columnsFit n ≡ true → limitsInRange (n .limits) ≡ true → sourceClear n ≡ true → {r : Judged} → r ≡ treeJudged n → r ≡ judged n
+  unfolding judged treeJudged
+  judged-rest a b c e = rw (a, b, c) e
 
-  pub judged-nodes : columnsFit n ≡ true → limitsInRange (n .limits) ≡ true → sourceClear n ≡ true → (r : Judged) (x : Refusal) → r ≡ Refused x → r ≡ nodesJudged n → r ≡ judged n
-  judged-nodes a b c r x e is = sym (judged-rest a b c ∙ rw (← is, e))
+  -- of the nodes and the childless: none is refused, or the first refusal
+  pub tree-passed : {r : Bool} → Passed n r → r ≡ true → Sound ≡ treeJudged n
+  unfolding treeJudged
+  tree-passed p e = rw (p .nodes e, p .children e)
 
-  pub judged-last : columnsFit n ≡ true → limitsInRange (n .limits) ≡ true → sourceClear n ≡ true → (r : Judged) → Sound ≡ nodesJudged n → r ≡ childed n → r ≡ judged n
-  judged-last a b c r e is = is ∙ sym (judged-rest a b c ∙ rw (← e))
+  pub tree-nodes : (r : Judged) (x : Refusal) → r ≡ Refused x → r ≡ nodesJudged n → r ≡ treeJudged n
+  unfolding treeJudged
+  tree-nodes r x e is = rw (← is, e)
+
+  pub tree-last : (r : Judged) → Sound ≡ nodesJudged n → r ≡ childed n → r ≡ treeJudged n
+  unfolding treeJudged
+  tree-last r e is = rw (← e) is

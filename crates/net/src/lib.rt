@@ -9,10 +9,9 @@ ghost use mathlib.Core.List.{List};
 ghost use lib.ListN.{length, getD, set};
 ghost use lib.Dec.{eqb, ltb, leb};
 ghost use Rattle.rules.specs.Refusal.{numberOf, placeOf};
-ghost use Rattle.rules.specs.Choose.{both};
 ghost use Rattle.rules.specs.Net.{netAt, node, unlimited};
-ghost use Rattle.rules.specs.Judge.{limitsInRange, sourceClear, endInRange, nodeInRange, parentFits, admitted, hasChild, childedBy, judged};
-ghost use Rattle.net.specs.Counted.{sameLengths, Within, Level, Tallied, NodesJudged};
+ghost use Rattle.rules.specs.Judge.{limitsInRange, endInRange, nodeInRange, parentFits, admitted, hasChild, childedBy, judged};
+ghost use Rattle.net.specs.Counted.{sameLengths, nodeClear, Within, Level, Tallied, NodesJudged, treeJudged};
 
 // The number of a refusal (RULES 4.3).
 pub fn number(r: Refusal) -> u32
@@ -56,25 +55,12 @@ pub fn place(r: Refusal) -> u64
     }
 }
 
-// Both tests. Its value is the definitions' own `both`, so a judge made of it needs no proof by cases.
-pub fn and(a: bool, b: bool) -> bool
-    ensures { λ r. ⌜ r ≡ both a b ⌝ }
-{
-    if a { b } else { false }
-}
-
 // 7: the columns are equal, not empty, and at most 1,025 long.
 fn columns_fit(parent: usize, wire: usize, kind: usize, pin: usize, polarity: usize) -> bool
     ensures { λ r. ⌜ r ≡ sameLengths parent wire kind pin polarity ⌝ }
 {
-    let some = and(0 < parent, parent <= 1025);
-    and(
-        wire == parent,
-        and(
-            kind == parent,
-            and(pin == parent, and(polarity == parent, some)),
-        ),
-    )
+    let some = (0 < parent) & (parent <= 1025);
+    (wire == parent) & ((kind == parent) & ((pin == parent) & ((polarity == parent) & some)))
 }
 
 // The limits are in their ranges. The pin is doubled in 64 bits: it has no upper end of its own.
@@ -83,35 +69,31 @@ pub fn limits_in_range(l: Limits) -> bool
 {
     let limit = l.limit as u64;
     let twice = 2 * (l.pin as u64);
-    and(
-        0 < limit,
-        and(limit <= 1000000, and(twice < limit, l.repeater <= 1)),
-    )
+    (0 < limit) & ((limit <= 1000000) & ((twice < limit) & (l.repeater <= 1)))
 }
 
 // Node 0's five places hold 0.
-fn source_clear(parent: &[u16], wire: &[u32], kind: &[u8], pin: &[u32], polarity: &[u8]) -> bool
-    requires { ⌜ Within 0 (now parent) (now wire) (now kind) (now pin) (now polarity) ⌝ }
-    ensures { λ r. ⌜ r ≡ sourceClear (netAt unlimited (parent .entry) (wire .entry) (kind .entry) (pin .entry) (polarity .entry)) ⌝ }
+fn source_clear(d: Node) -> bool
+    ensures { λ r. ⌜ r ≡ nodeClear d ⌝ }
 {
-    let ends = and(kind[0] == 0, and(pin[0] == 0, polarity[0] == 0));
-    and(parent[0] == 0, and(wire[0] == 0, ends))
+    let end = (d.kind == 0) & ((d.pin == 0) & (d.polarity == 0));
+    (d.parent == 0) & ((d.wire == 0) & end)
 }
 
 // A node's values are in their ranges.
 fn node_in_range(l: Limits, d: Node) -> bool
     ensures { λ r. ⌜ r ≡ nodeInRange l d ⌝ }
 {
-    and(d.wire <= 10000000, end_in_range(l, d))
+    (d.wire <= 10000000) & end_in_range(l, d)
 }
 
 fn end_in_range(l: Limits, d: Node) -> bool
     ensures { λ r. ⌜ r ≡ endInRange l d ⌝ }
 {
     if d.kind == 1 {
-        return and(d.pin <= 1000000, d.polarity <= l.repeater);
+        return (d.pin <= 1000000) & (d.polarity <= l.repeater);
     }
-    and(d.kind == 0, and(d.pin == 0, d.polarity == 0))
+    (d.kind == 0) & ((d.pin == 0) & (d.polarity == 0))
 }
 
 // The parent p of node i is lower, no sink, and has room for a child; and i is no node past the last.
@@ -125,7 +107,7 @@ fn parent_fits(i: usize, p: usize, kinds: &[u8], counts: &[u8; 1025]) -> bool
     if i <= p {
         return false;
     }
-    and(kinds[p] == 0, counts[p] < 8)
+    (kinds[p] == 0) & (counts[p] < 8)
 }
 
 // Node i, over the kinds of the nodes before it and the children that each has so far: 3 before 4. A refusal is at `place`.
@@ -233,6 +215,26 @@ fn judge_nodes(
     Judged::Sound
 }
 
+// The nodes one by one, then the childless: the first refusal.
+fn judge_in_order(
+    l: Limits,
+    parent: &[u16],
+    wire: &[u32],
+    kind: &[u8],
+    pin: &[u32],
+    polarity: &[u8],
+) -> Judged
+    requires { ⌜ Level (netAt l parent wire kind pin polarity) ⌝ }
+    ensures { λ r. ⌜ r ≡ treeJudged (netAt l (parent .entry) (wire .entry) (kind .entry) (pin .entry) (polarity .entry)) ⌝ }
+{
+    let mut counts = [0u8; 1025];
+    let nodes = judge_nodes(l, parent, wire, kind, pin, polarity, &mut counts);
+    if let Judged::Refused(_) = nodes {
+        return nodes;
+    }
+    all_childed(kind, &counts, parent.len())
+}
+
 // A net's columns: the first refusal in the order of RULES 5.4, or that they are sound.
 pub fn judge(
     l: Limits,
@@ -251,13 +253,11 @@ pub fn judge(
     if !limits_in_range(l) {
         return Judged::Refused(Refusal::OutOfRange(0));
     }
-    if !source_clear(parent, wire, kind, pin, polarity) {
+    if !source_clear(node_at(parent, wire, kind, pin, polarity, 0)) {
         return Judged::Refused(Refusal::OutOfRange(0));
     }
-    let mut counts = [0u8; 1025];
-    let nodes = judge_nodes(l, parent, wire, kind, pin, polarity, &mut counts);
-    if let Judged::Refused(_) = nodes {
-        return nodes;
+    if screen::passes(l, parent, wire, kind, pin, polarity) {
+        return Judged::Sound;
     }
-    all_childed(kind, &counts, n)
+    judge_in_order(l, parent, wire, kind, pin, polarity)
 }

@@ -11,7 +11,7 @@ use rules::Refusal;
 pub fn entry_in_range(e: Entry) -> bool
     ensures { λ r. ⌜ r ≡ entryInRange e ⌝ }
 {
-    net::and(0 < e.wire, net::and(e.wire <= 1024, e.offset <= 10000000))
+    (0 < e.wire) & ((e.wire <= 1024) & (e.offset <= 10000000))
 }
 
 // Entry i of the columns.
@@ -47,7 +47,8 @@ pub fn judge(wires: &[u16], offsets: &[u32]) -> Judged
     ensures { λ r. ⌜ r ≡ columnsJudged (now (wires .entry)) (now (offsets .entry)) ⌝ }
 {
     let n = wires.len();
-    if !net::and(offsets.len() == n, n <= 4096) {
+    let fits = (offsets.len() == n) & (n <= 4096);
+    if !fits {
         return Judged::Refused(Refusal::WrongColumns);
     }
     judge_ranges(wires, offsets)

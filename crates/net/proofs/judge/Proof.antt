@@ -1,74 +1,49 @@
--- `judge` answers `judged`: each early return is the refusal of the first test that fails, and the last call finds the childless.
-use mathlib.Core.Path.{sym, _∙_}
-use native.Mathlib.Omega.{arith}
-use borrow.Author.Tests.{not-true, not-false}
-use Rattle.rules.specs.Net.{netAt}
-use Rattle.net.specs.Counted.{Level}
-use Rattle.net.proofs.Judging.{level, tallied-start, childed-is, judged-columns, judged-limits, judged-source, judged-nodes, judged-last}
+-- `judge` answers `judged`: each early return is the refusal of the first test that fails, and the rest is a yes or judged in order.
+use mathlib.Core.Path.{ap, _∙_}
 use borrow.Author.Needs.{needs}
+use Rattle.rules.specs.Net.{netAt}
+use Rattle.net.specs.Counted.{nodeClear}
+use Rattle.net.proofs.Judging.{passed, failed, level, within, judged-columns, judged-limits, judged-source, judged-rest, tree-passed}
 use Rattle.net.proofs.judge.Statement.{statement}
 use Rattle.net.proofs.judge.Tie as tie
 
-columns-fit-requires : tie.Need-columns-fit-requires
-columns-fit-requires c κs = search needs
-
 returns : tie.Need-returns
-returns c = judged-columns _ (sym (c .before .columns-fit .ensures) ∙ not-true _ (c .if1 .taken))
-
-limits-in-range-requires : tie.Need-limits-in-range-requires
-limits-in-range-requires c κs = search needs
+returns c = judged-columns _ (failed (c .before .columns-fit .ensures) (c .if1 .taken))
 
 returns-2 : tie.Need-returns-2
-returns-2 c = judged-limits _ (sym (c .before .before .before .columns-fit .ensures) ∙ not-false _ (c .before .before .if1 .left)) (sym (c .before .limits-in-range .ensures) ∙ not-true _ (c .if2 .taken))
+returns-2 c = judged-limits _ (passed (c .before .before .before .columns-fit .ensures) (c .before .before .if1 .left)) (failed (c .before .limits-in-range .ensures) (c .if2 .taken))
 
-source-clear-requires : tie.Need-source-clear-requires
-source-clear-requires c κs =
-    let a = c .before .before .before .before .before .before .before .before .before .args in let n = netAt (a .l) (a .parent) (a .wire) (a .kind) (a .pin) (a .polarity) in
-    let v : Level n = level n (sym (c .before .before .before .columns-fit .ensures) ∙ not-false _ (c .before .before .if1 .left)) in search needs
+node-at-requires : tie.Need-node-at-requires
+node-at-requires c κs =
+    let a = c .before .before .before .before .before .before .before .before .before .args in let v = level (netAt (a .l) (a .parent) (a .wire) (a .kind) (a .pin) (a .polarity)) (passed (c .before .before .before .columns-fit .ensures) (c .before .before .if1 .left)) in within v 0 (v .some)
 
 returns-3 : tie.Need-returns-3
-returns-3 c = judged-source _ (sym (c .before .before .before .before .before .columns-fit .ensures) ∙ not-false _ (c .before .before .before .before .if1 .left)) (sym (c .before .before .before .limits-in-range .ensures) ∙ not-false _ (c .before .before .if2 .left)) (sym (c .before .source-clear .ensures) ∙ not-true _ (c .if3 .taken))
+returns-3 c = judged-source _ (passed (c .before .before .before .before .before .before .columns-fit .ensures) (c .before .before .before .before .before .if1 .left)) (passed (c .before .before .before .before .limits-in-range .ensures) (c .before .before .before .if2 .left)) (failed (c .before .source-clear .ensures ∙ ap nodeClear (c .before .before .node-at .ensures)) (c .if3 .taken))
 
-judge-nodes-requires : tie.Need-judge-nodes-requires
-judge-nodes-requires c κs =
-    let a = c .before .before .before .before .before .before .before .before .before .before .before .before .args in let n = netAt (a .l) (a .parent) (a .wire) (a .kind) (a .pin) (a .polarity) in
-    (level n (sym (c .before .before .before .before .before .before .columns-fit .ensures) ∙ not-false _ (c .before .before .before .before .before .if1 .left)), tallied-start n)
-
-enum-told : tie.Need-enum-told
-enum-told c = search needs
+passes-requires : tie.Need-passes-requires
+passes-requires c κs = level _ (passed (c .before .before .before .before .before .before .columns-fit .ensures) (c .before .before .before .before .before .if1 .left))
 
 returns-4 : tie.Need-returns-4
-returns-4 c = judged-nodes _ (sym (c .before .before .before .before .before .before .before .before .before .columns-fit .ensures) ∙ not-false _ (c .before .before .before .before .before .before .before .before .if1 .left)) (sym (c .before .before .before .before .before .before .before .limits-in-range .ensures) ∙ not-false _ (c .before .before .before .before .before .before .if2 .left)) (sym (c .before .before .before .before .before .source-clear .ensures) ∙ not-false _ (c .before .before .before .before .if3 .left)) _ _ (c .enum-told .given .1) (c .before .before .judge-nodes .ensures .is)
+returns-4 c = judged-rest _ (passed (c .before .before .before .before .before .before .before .before .columns-fit .ensures) (c .before .before .before .before .before .before .before .if1 .left)) (passed (c .before .before .before .before .before .before .limits-in-range .ensures) (c .before .before .before .before .before .if2 .left)) (passed (c .before .before .before .source-clear .ensures ∙ ap nodeClear (c .before .before .before .before .node-at .ensures)) (c .before .before .if3 .left)) (tree-passed _ (c .before .passes .ensures) (c .if4 .taken))
 
-enum-told-2 : tie.Need-enum-told-2
-enum-told-2 c = search needs
-
-all-childed-requires : tie.Need-all-childed-requires
-all-childed-requires c κs =
-    let a = c .before .before .before .before .before .before .before .before .before .before .before .before .before .before .before .before .args in let n = netAt (a .l) (a .parent) (a .wire) (a .kind) (a .pin) (a .polarity) in
-    let v : Level n = level n (sym (c .before .before .before .before .before .before .before .before .before .before .columns-fit .ensures) ∙ not-false _ (c .before .before .before .before .before .before .before .before .before .if1 .left)) in
-    let t = c .before .before .before .judge-nodes .ensures .counted (c .before .enum-told2 .given .1) in
-    (omega arith, t .long, v .few)
+judge-in-order-requires : tie.Need-judge-in-order-requires
+judge-in-order-requires c κs = level _ (passed (c .before .before .before .before .before .before .before .before .columns-fit .ensures) (c .before .before .before .before .before .before .before .if1 .left))
 
 returns-5 : tie.Need-returns-5
-returns-5 c =
-    let nodes = c .before .before .before .before .judge-nodes .ensures in
-    let sound = c .before .before .enum-told2 .given .1 in
-    judged-last _ (sym (c .before .before .before .before .before .before .before .before .before .before .before .columns-fit .ensures) ∙ not-false _ (c .before .before .before .before .before .before .before .before .before .before .if1 .left)) (sym (c .before .before .before .before .before .before .before .before .before .limits-in-range .ensures) ∙ not-false _ (c .before .before .before .before .before .before .before .before .if2 .left)) (sym (c .before .before .before .before .before .before .before .source-clear .ensures) ∙ not-false _ (c .before .before .before .before .before .before .if3 .left)) _ (sym sound ∙ nodes .is) (c .all-childed .ensures ∙ childed-is (nodes .counted sound))
+returns-5 c = judged-rest _ (passed (c .before .before .before .before .before .before .before .before .before .columns-fit .ensures) (c .before .before .before .before .before .before .before .before .if1 .left)) (passed (c .before .before .before .before .before .before .before .limits-in-range .ensures) (c .before .before .before .before .before .before .if2 .left)) (passed (c .before .before .before .before .source-clear .ensures ∙ ap nodeClear (c .before .before .before .before .before .node-at .ensures)) (c .before .before .before .if3 .left)) (c .judge-in-order .ensures)
 
 pub judge-spec : {M : Type 1} → statement M
 judge-spec =
     tie.close
     (tie.spec
-    columns-fit-requires
+    (λ c κs. search needs)
     returns
-    limits-in-range-requires
+    (λ c κs. search needs)
     returns-2
-    source-clear-requires
+    node-at-requires
+    (λ c κs. search needs)
     returns-3
-    judge-nodes-requires
-    enum-told
+    passes-requires
     returns-4
-    enum-told-2
-    all-childed-requires
+    judge-in-order-requires
     returns-5)

@@ -6,11 +6,8 @@ use Rattle.net.proofs.node_in_range.Tie as tie
 end-in-range-requires : tie.Need-end-in-range-requires
 end-in-range-requires c κs = search needs
 
-and-requires : tie.Need-and-requires
-and-requires c κs = search needs
-
 returns : tie.Need-returns
-returns c = rw (c .and .ensures, c .before .end-in-range .ensures)
+returns c = rw (c .end-in-range .ensures)
 
 pub node-in-range-spec : {M : Type 1} → statement M
-node-in-range-spec = tie.close (tie.spec end-in-range-requires and-requires returns)
+node-in-range-spec = tie.close (tie.spec end-in-range-requires returns)

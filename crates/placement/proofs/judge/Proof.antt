@@ -1,8 +1,6 @@
 -- `judge` asks for the lengths, and then for each entry's range.
 use denote.Ref.{now}
-use mathlib.Core.Path.{sym, _∙_}
 use borrow.Author.Tests.{not-true, not-false}
-use borrow.Author.Needs.{needs}
 use Rattle.placement_file.proofs.Judging.{fits}
 use Rattle.placement.proofs.Judging.{unequal, level}
 use Rattle.placement.proofs.judge.Statement.{statement}
@@ -12,7 +10,6 @@ pub judge-spec : {M : Type 1} → statement M
 judge-spec =
     tie.close
     (tie.spec
-    (λ c κs. search needs)
-    (λ c. unequal _ _ (sym (c .before .and .ensures) ∙ not-true _ (c .if1 .taken)))
-    (λ c κs. let a = c .before .before .before .before .args in fits (now (a .wires)) (now (a .offsets)) (sym (c .before .and .ensures) ∙ not-false _ (c .if1 .left)) .0)
-    (λ c. let a = c .before in level _ _ (sym (a .before .and .ensures) ∙ not-false _ (a .if1 .left)) (c .judge-ranges .ensures)))
+    (λ c. unequal _ _ (not-true _ (c .if1 .taken)))
+    (λ c κs. let a = c .before .before .before .args in fits (now (a .wires)) (now (a .offsets)) (not-false _ (c .if1 .left)) .0)
+    (λ c. level _ _ (not-false _ (c .before .if1 .left)) (c .judge-ranges .ensures)))
