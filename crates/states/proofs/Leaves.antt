@@ -3,7 +3,7 @@ use Prim.Native.Nat.{ℕ, zero, suc, _+_, _-_, _*_, _%_, _≤_, _<_, min, max}
 use mathlib.Core.Path.{_≡_, refl, ap}
 use native.Mathlib.Nat.{div-add-mod', mul-le-mul-left}
 use native.Mathlib.Omega.{arith}
-use Rattle.frontier.specs.Cell.{Kind, buf, inv, Cell, cellOf, kindOf}
+use Rattle.frontier.specs.Cell.{Kind, buf, inv, Cell, kindOf, cellOf}
 use Rattle.frontier.specs.Frontier.{State, lost, has, mergeBy, merge, ceil, req, T, second, cand, via, wire}
 use Rattle.frontier.proofs.Lower.{ceil-least, req-ok, T-fits}
 use Rattle.states.specs.declared.Cell as code
@@ -100,19 +100,9 @@ unfolding wire wireOf
 wire-1 τ buf w nd = refl
 wire-1 τ inv w nd = refl
 
--- ---- by the number on the wire, and by the node's state
-module _ (τ : Cell) where
-  pub T-suc : (v r : ℕ) → (r ≡ 0 → ⊥) → T τ v r ≡ max τ.cb (v - r * τ.D)
-  T-suc v zero e = absurd (e refl)
-  T-suc v (suc r) e = refl
-
-  pub via-lost : (κ : Kind) (π w : ℕ) (s : State) → s ≡ lost → via τ κ π w s ≡ lost
-  unfolding via
-  via-lost κ π w s e = rw e
-
-  pub via-has : (κ : Kind) (π w : ℕ) (s : State) (n a b : ℕ) → s ≡ has n a b → via τ κ π w s ≡ merge (cand τ κ π n (w + a)) (cand τ κ π (suc n) (w + b))
-  unfolding via
-  via-has κ π w s n a b e = rw e
+pub T-suc : (τ : Cell) (v r : ℕ) → (r ≡ 0 → ⊥) → T τ v r ≡ max τ.cb (v - r * τ.D)
+T-suc τ v zero e = absurd (e refl)
+T-suc τ v (suc r) e = refl
 
 -- ---- over the code's limits
 pub model-is : {c : code.Cell} → CellOk c → modelOf c ≡ cellOf (limitsOf c)

@@ -1,10 +1,10 @@
 -- A wire whose load fits takes no inverter, or one that hands up its pin: what it is worth at both polarities, without a division.
-use Prim.Native.Nat.{ℕ, zero, suc, _+_, _-_, _*_, _%_, _≤_, _<_, min, max}
-use mathlib.Core.Path.{_≡_, refl, sym, subst, _∙_}
+use Prim.Native.Nat.{ℕ, suc, _+_, _-_, _*_, _≤_, min, max}
+use mathlib.Core.Path.{_≡_, refl, sym, _∙_}
 use native.Mathlib.Omega.{arith}
 use native.Mathlib.Numerals.{add-one}
 use Rattle.frontier.specs.Cell.{inv, Cell}
-use Rattle.frontier.specs.Frontier.{State, lost, has, mergeBy, merge, ceil, req, T, second, cand, via}
+use Rattle.frontier.specs.Frontier.{State, lost, has, mergeBy, merge, ceil, req, second, cand, via}
 use Rattle.frontier.proofs.Lower.{Tidy, ceil-least}
 use Rattle.states.specs.declared.Cell as code
 use Rattle.states.specs.declared.Side.the-variants.{Lost, Has}
@@ -75,26 +75,26 @@ module _ (τ : Cell) (eq : τ.cu ≡ τ.cb + τ.D) (pos : 1 ≤ τ.D) where
   short-both w n a b m x y h l g k = rw (via-even w n a b h l, via-odd w m x y g k)
 
 -- ---- what `lift` answers
+module _ {c : code.Cell} (ok : CellOk c) {w : ℕ} where
+  pub lift-none : {s : Sides} → s .plus ≡ Lost → s .minus ≡ Lost → Lifted (modelOf c) w (st (s .plus)) (st (s .minus)) s
+  lift-none e f = let z = sym (short-none (modelOf c) (ok .eq) (ok .pos) w) in record { plus = rw (e, f) z; minus = rw (e, f) z }
+
+  pub lift-own : {n a b : ℕ} → w + a ≤ c .limit → b ≤ a → Lifted (modelOf c) w (has n a b) lost (record { plus = Has n (w + a) (w + b); minus = Has (n + 1) (c .pin) (c .pin) })
+  lift-own {n} {a} {b} h l = record {
+    plus = sym (short-own (modelOf c) (ok .eq) (ok .pos) w n a b h l);
+    minus = rw add-one (sym (short-other (modelOf c) (ok .eq) (ok .pos) w n a b h l));
+  }
+
+  pub lift-both : {n a b m x y : ℕ} {r : Sides} → w + max a x ≤ c .limit → b ≤ a → y ≤ x
+      → st (r .plus) ≡ mergeBy (m + 1 - n) (n - (m + 1)) n (w + a) (w + b) (m + 1) (c .pin) (c .pin)
+      → st (r .minus) ≡ mergeBy (n + 1 - m) (m - (n + 1)) m (w + x) (w + y) (n + 1) (c .pin) (c .pin) → Lifted (modelOf c) w (has n a b) (has m x y) r
+  lift-both {n} {a} {b} {m} {x} {y} h l k i j =
+      let f : w + a ≤ c .limit = omega arith in
+      let g : w + x ≤ c .limit = omega arith in
+      record {
+        plus = i ∙ rw add-one (sym (short-both (modelOf c) (ok .eq) (ok .pos) w n a b m x y f l g k));
+        minus = j ∙ rw add-one (sym (short-both (modelOf c) (ok .eq) (ok .pos) w m x y n a b g k f l));
+      }
+
 pub turned : {τ : Cell} {w : ℕ} {p q : State} {r : Sides} → Lifted τ w p q r → Lifted τ w q p (record { plus = r .minus; minus = r .plus })
 turned l = record { plus = l .minus; minus = l .plus }
-
-module _ {c : code.Cell} (ok : CellOk c) {w : ℕ} where
-  pub lift-none : {q : State} → q ≡ lost → Lifted (modelOf c) w lost q (record { plus = Lost; minus = Lost })
-  lift-none e = let z = sym (short-none (modelOf c) (ok .eq) (ok .pos) w) in rw e (record { plus = z; minus = z })
-
-  module _ {p q : State} {n a b : ℕ} (fits : w + a ≤ c .limit) where
-    pub lift-own : p ≡ has n a b → Falls p → q ≡ lost → Lifted (modelOf c) w p q (record { plus = Has n (w + a) (w + b); minus = Has (n + 1) (c .pin) (c .pin) })
-    lift-own e f g =
-        let l : b ≤ a = subst Falls e f in
-        rw (e, g, add-one) (record { plus = sym (short-own (modelOf c) (ok .eq) (ok .pos) w n a b fits l); minus = sym (short-other (modelOf c) (ok .eq) (ok .pos) w n a b fits l) })
-
-    pub lift-both : {m x y : ℕ} {r : Sides} → w + x ≤ c .limit → p ≡ has n a b → Falls p → q ≡ has m x y → Falls q
-        → st (r .plus) ≡ mergeBy (m + 1 - n) (n - (m + 1)) n (w + a) (w + b) (m + 1) (c .pin) (c .pin)
-        → st (r .minus) ≡ mergeBy (n + 1 - m) (m - (n + 1)) m (w + x) (w + y) (n + 1) (c .pin) (c .pin) → Lifted (modelOf c) w p q r
-    lift-both {m} {x} {y} h e f g k i j =
-        let l : b ≤ a = subst Falls e f in
-        let o : y ≤ x = subst Falls g k in
-        rw (e, g) (record {
-          plus = i ∙ rw add-one (sym (short-both (modelOf c) (ok .eq) (ok .pos) w n a b m x y fits l h o));
-          minus = j ∙ rw add-one (sym (short-both (modelOf c) (ok .eq) (ok .pos) w m x y n a b h o fits l));
-        })

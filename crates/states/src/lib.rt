@@ -2,9 +2,9 @@
 ghost use mathlib.Core.Path.{_≡_};
 ghost use Prim.Native.Nat.{_+_, _-_, _*_, _<_, _≤_, min, max};
 ghost use Rattle.rules.specs.Figures.{mostWire};
-ghost use Rattle.frontier.specs.Frontier.{lost, T, mergeBy};
+ghost use Rattle.frontier.specs.Frontier.{lost, has, T, mergeBy};
 ghost use Rattle.frontier.specs.Cell.{cellOf, inv};
-ghost use Rattle.states.specs.States.{modelOf, limitsOf, st, CellOk, Small, Falls, wireOf, Lifted};
+ghost use Rattle.states.specs.States.{modelOf, limitsOf, st, CellOk, SmallS, Small, Falls, wireOf, Lifted};
 
 // The limit C_U, the repeater's pin C_b, what is left of the limit beside the pin, and 1 for an inverter.
 pub struct Cell {
@@ -162,13 +162,13 @@ fn over(c: Cell, w: u64, same: Side, other: Side) -> Side
     merge(x, y)
 }
 
-// At both polarities.
+// A node or a wire at both polarities.
 pub struct Sides {
     pub plus: Side,
     pub minus: Side,
 }
 
-// By division.
+// A wire over its node's two states, by division.
 fn lift_long(c: Cell, w: u64, p: Side, q: Side) -> Sides
     requires { ⌜ CellOk c ⌝ }
     requires { ⌜ (w ≤ mostWire) × Small 500000000000 p × Small 500000000000 q ⌝ }
@@ -180,29 +180,38 @@ fn lift_long(c: Cell, w: u64, p: Side, q: Side) -> Sides
     }
 }
 
-// Over the minus polarity alone.
-fn lift_minus(c: Cell, w: u64, q: Side) -> Sides
+// Over one polarity alone, taken for plus. A wire whose load fits needs no division: it takes no inverter, or one that hands up its pin.
+fn lift_one(c: Cell, w: u64, n: u64, a: u64, b: u64) -> Sides
     requires { ⌜ CellOk c ⌝ }
-    requires { ⌜ (w ≤ mostWire) × Small 500000000000 q × Falls (st q) ⌝ }
-    ensures { λ r. ⌜ Lifted (modelOf c) w lost (st q) r ⌝ }
+    requires { ⌜ (w ≤ mostWire) × SmallS 500000000000 (has n a b) × (b ≤ a) ⌝ }
+    ensures { λ r. ⌜ Lifted (modelOf c) w (has n a b) lost r ⌝ }
 {
-    let Side::Has(n, a, b) = q else {
-        return Sides {
-            plus: Side::Lost,
-            minus: Side::Lost,
-        };
-    };
     let x = w + a;
     if c.limit < x {
-        return lift_long(c, w, Side::Lost, q);
+        return lift_long(c, w, Side::Has(n, a, b), Side::Lost);
     }
     Sides {
-        plus: Side::Has(n + 1, c.pin, c.pin),
-        minus: Side::Has(n, x, w + b),
+        plus: Side::Has(n, x, w + b),
+        minus: Side::Has(n + 1, c.pin, c.pin),
     }
 }
 
-// A wire of size w over its node's two states. One whose load fits takes no inverter, or one that hands up its pin.
+// Over both polarities.
+fn lift_two(c: Cell, w: u64, n: u64, a: u64, b: u64, m: u64, x: u64, y: u64) -> Sides
+    requires { ⌜ CellOk c ⌝ }
+    requires { ⌜ (w ≤ mostWire) × SmallS 500000000000 (has n a b) × SmallS 500000000000 (has m x y) × (b ≤ a) × (y ≤ x) ⌝ }
+    ensures { λ r. ⌜ Lifted (modelOf c) w (has n a b) (has m x y) r ⌝ }
+{
+    if c.limit < w + most(a, x) {
+        return lift_long(c, w, Side::Has(n, a, b), Side::Has(m, x, y));
+    }
+    Sides {
+        plus: better(n, w + a, w + b, m + 1, c.pin, c.pin),
+        minus: better(m, w + x, w + y, n + 1, c.pin, c.pin),
+    }
+}
+
+// A wire of size w over its node's two states.
 pub fn lift(c: Cell, w: u64, s: Sides) -> Sides
     requires { ⌜ CellOk c × (w ≤ mostWire) ⌝ }
     requires { ⌜ Small 500000000000 (s .plus) × Small 500000000000 (s .minus) × Falls (st (s .plus)) × Falls (st (s .minus)) ⌝ }
@@ -211,24 +220,19 @@ pub fn lift(c: Cell, w: u64, s: Sides) -> Sides
     let p = s.plus;
     let q = s.minus;
     let Side::Has(n, a, b) = p else {
-        return lift_minus(c, w, q);
-    };
-    let x = w + a;
-    if c.limit < x {
-        return lift_long(c, w, p, q);
-    }
-    let Side::Has(m, d, e) = q else {
+        let Side::Has(m, x, y) = q else {
+            return s;
+        };
+        let r = lift_one(c, w, m, x, y);
+        let plus = r.minus;
+        let minus = r.plus;
         return Sides {
-            plus: Side::Has(n, x, w + b),
-            minus: Side::Has(n + 1, c.pin, c.pin),
+            plus: plus,
+            minus: minus,
         };
     };
-    let y = w + d;
-    if c.limit < y {
-        return lift_long(c, w, p, q);
-    }
-    Sides {
-        plus: better(n, x, w + b, m + 1, c.pin, c.pin),
-        minus: better(m, y, w + e, n + 1, c.pin, c.pin),
-    }
+    let Side::Has(m, x, y) = q else {
+        return lift_one(c, w, n, a, b);
+    };
+    lift_two(c, w, n, a, b, m, x, y)
 }

@@ -1,5 +1,4 @@
 -- The least number of repeaters is one division, and none where the load fits: the code's is the frontier's.
-use native.Mathlib.Omega.{arith}
 use mathlib.Core.Path.{sym}
 use Rattle.frontier.specs.Frontier.{ceil}
 use Rattle.states.specs.States.{modelOf}

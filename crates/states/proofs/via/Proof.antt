@@ -1,8 +1,8 @@
 -- A wire over one state: the better of its two candidates, whose numbers are small.
 use native.Mathlib.Omega.{arith}
-use mathlib.Core.Path.{sym, subst, ap, _∙_}
-use Rattle.states.proofs.Leaves.{via-lost, via-has}
-use Rattle.states.specs.States.{st, Small}
+use mathlib.Core.Path.{subst, _∙_}
+use Rattle.frontier.specs.Frontier.{via}
+use Rattle.states.specs.States.{Small}
 use native.Mathlib.Numerals.{add-one}
 use borrow.Author.Needs.{needs}
 use Rattle.states.proofs.via.Statement.{statement}
@@ -15,7 +15,8 @@ enum-told : tie.Need-enum-told
 enum-told c = search needs
 
 returns : tie.Need-returns
-returns c = sym (via-lost _ _ _ _ _ (ap st (c .enum-told .given .1)))
+unfolding via
+returns c = rw (c .enum-told .given .1)
 
 add-cand : tie.Need-add-cand
 add-cand c = let h = subst (Small 500000000000) (c .before .s .given .1) (c .before .before .before .pre .1 .2) in omega arith
@@ -36,7 +37,8 @@ merge-requires : tie.Need-merge-requires
 merge-requires c κs = search needs
 
 returns-2 : tie.Need-returns-2
-returns-2 c = c .merge .ensures ∙ rw (c .before .before .cand .ensures, c .before .cand2 .ensures, add-one) (sym (via-has _ _ _ _ _ _ _ _ (ap st (c .before .before .before .before .s .given .1))))
+unfolding via
+returns-2 c = c .merge .ensures ∙ rw (c .before .before .cand .ensures, c .before .cand2 .ensures, c .before .before .before .before .s .given .1, add-one)
 
 pub via-spec : {M : Type 1} → statement M
 via-spec =
