@@ -4,7 +4,7 @@ use mathlib.Core.Path.{_≡_, refl, sym, subst, _∙_}
 use native.Mathlib.Omega.{arith}
 use Rattle.frontier.specs.Cell.{inv, Cell}
 use Rattle.frontier.specs.Frontier.{State, lost, has, T, req}
-use Rattle.surplus.specs.Choice.{Under, Met, Meets, even, odd}
+use Rattle.surplus.specs.Choice.{Met, Meets, even, odd}
 use Rattle.cuts.specs.declared.Stand.{Stand}
 use Rattle.cuts.specs.declared.Stand.the-variants.{Not, At}
 use Rattle.cuts.specs.Tries.{One, OneOk, PickOk}

@@ -1,7 +1,6 @@
 // What the walk down decides at one wire: which of its node's polarities and surpluses, and how many inverters, meet what it is asked.
 use states::Cell;
 use states::Side;
-ghost use mathlib.Core.Path.{_≡_};
 ghost use Prim.Native.Nat.{_+_, _≤_};
 ghost use Rattle.rules.specs.Figures.{mostWire};
 ghost use Rattle.states.specs.States.{modelOf, st, CellOk, Small};

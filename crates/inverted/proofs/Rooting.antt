@@ -4,12 +4,12 @@ use mathlib.Core.Path.{_≡_, refl, sym, subst, ap, _∙_}
 use mathlib.Core.List.{List, []}
 use native.Mathlib.Omega.{arith}
 use native.Mathlib.Decide.{ℕ-discrete}
-use lib.ListN.{length, getD, set, replicate, length-set, length-replicate, getD-replicate}
-use lib.Seq.{getD-set-same, getD-set-other}
+use lib.ListN.{length, getD, set, replicate, length-set, length-replicate}
+use lib.Seq.{getD-set-same}
 use Rattle.rules.specs.declared.Entry.{Entry}
 use Rattle.rules.specs.Figures.{mostPlaces}
 use Rattle.rules.specs.Net.{Net, places, parent, kind, pin, polarity}
-use Rattle.rules.specs.Tree.{under, tree}
+use Rattle.rules.specs.Tree.{tree}
 use Rattle.rules.specs.Legal.{Legal, Least, NoneLegal}
 use Rattle.rules.specs.Sound.{SoundNet}
 use Rattle.frontier.specs.Cell as model
@@ -23,12 +23,12 @@ use Rattle.states.specs.declared.Cell.{Cell}
 use Rattle.states.specs.States.{modelOf, limitsOf, CellOk}
 use Rattle.states.proofs.Leaves.{model-is}
 use Rattle.columns.specs.Columns.{roomIn}
-use Rattle.surplus.specs.Wires.{Alive, sideOf, nodeAt}
-use Rattle.surplus.specs.Pairs.{NearOf, nearState}
+use Rattle.surplus.specs.Wires.{Alive, sideOf}
+use Rattle.surplus.specs.Pairs.{nearState}
 use Rattle.surplus.specs.Links.{First}
 use Rattle.surplus.specs.Dealt.{Dealt}
 use Rattle.surplus.specs.Choice.{Under, Budgeted}
-use Rattle.surplus.specs.Tables.{headAt, field, countAt, NodeNear, WiresJoined, NodesClosed, Filled}
+use Rattle.surplus.specs.Tables.{headAt, field, countAt, WiresJoined, NodesClosed, Filled}
 use Rattle.surplus.specs.Asks.{partAt, Asks, Out}
 use Rattle.surplus.specs.Descent.{Begun, Written}
 use Rattle.surplus.proofs.Bounds.{acc-small}

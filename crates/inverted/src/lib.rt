@@ -6,7 +6,7 @@ use solution::Solved;
 use states::Cell;
 use states::Side;
 ghost use mathlib.Core.Path.{_≡_};
-ghost use Prim.Native.Nat.{ℕ, _+_, _*_, _≤_};
+ghost use Prim.Native.Nat.{_+_, _*_, _≤_};
 ghost use lib.ListN.{length};
 ghost use Rattle.rules.specs.Figures.{mostChildren};
 ghost use Rattle.rules.specs.Net.{netAt};

@@ -11,12 +11,15 @@ ghost use Rattle.surplus.specs.Rows.{loadAt, mixed, Mixed, FirstFit};
 ghost use Rattle.surplus.specs.Tables.{loAt, hiAt};
 ghost use Rattle.surplus.specs.Asks.{Runs, Running, Rows, CloseIs, ClosedIs, AsksClose, AskedClose};
 
-// The places of a table over nodes, of one that has two for each, and of the rows: the square of one more than the children that a node can have.
+// The places of a table over nodes, and of one that has two for each.
 pub const PLACES: usize = 1025;
 
 pub const SIDES: usize = 2 * PLACES;
 
-pub const ROWS: usize = 81;
+// The most children of a node, and the loads of their rows: that of m wires stands at the square of m.
+const CHILDREN: usize = 8;
+
+pub const ROWS: usize = (CHILDREN + 1) * (CHILDREN + 1);
 
 // A link as a place.
 pub fn place(x: u16) -> usize

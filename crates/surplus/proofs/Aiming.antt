@@ -1,13 +1,12 @@
 -- Laws of a wire's target, and of the polarity below a wire.
-use Prim.Native.Nat.{ℕ, zero, suc, _+_, _-_, _*_, _%_, _≤_, _<_, min}
+use Prim.Native.Nat.{ℕ, zero, suc, _+_, _-_, _%_, _≤_, _<_}
 use mathlib.Core.Path.{_≡_, refl, subst}
 use mathlib.Core.Logic.{_⊎_, inl, inr}
 use native.Mathlib.Omega.{arith}
 use Rattle.frontier.specs.Cell.{inv, Cell, turn}
-use Rattle.frontier.specs.Frontier.{State, has, ceil, req}
+use Rattle.frontier.specs.Frontier.{State, has, req}
 use Rattle.frontier.proofs.Attained.{SAtt}
 use Rattle.states.specs.States.{wireOf}
-use Rattle.surplus.specs.Dealt.{f3}
 use Rattle.surplus.specs.Choice.{Meets, Aim}
 use Rattle.surplus.proofs.Attaining.{wire-met}
 

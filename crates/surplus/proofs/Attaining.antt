@@ -1,9 +1,9 @@
 -- What a wire is worth is met by one of its candidates, so one of the code's tries finds it.
-use Prim.Native.Nat.{ℕ, zero, suc, _+_, _-_, _*_, _%_, _≤_, _<_, min}
-use mathlib.Core.Path.{_≡_, refl}
+use Prim.Native.Nat.{ℕ, suc, _+_, _-_, _≤_}
+use mathlib.Core.Path.{refl}
 use native.Mathlib.Omega.{arith}
 use Rattle.frontier.specs.Cell.{inv, Cell}
-use Rattle.frontier.specs.Frontier.{State, lost, has, T, req, second, cand, via, merge}
+use Rattle.frontier.specs.Frontier.{State, lost, has, T, req, second, cand, via}
 use Rattle.frontier.proofs.Attained.{SAtt, Up, merge-att}
 use Rattle.states.specs.States.{wireOf}
 use Rattle.surplus.specs.Choice.{Under, Met, Meets, even, odd}

@@ -2,7 +2,6 @@
 use Prim.Native.Nat.{ℕ, zero, suc, _+_, _-_, _*_, _≤_, _<_, min}
 use mathlib.Core.Path.{_≡_, refl}
 use native.Mathlib.Omega.{arith}
-use lib.ListN.{length}
 use Rattle.rules.specs.Figures.{mostChildren}
 use Rattle.rules.specs.Net.{Net, places, kind, pin, polarity}
 use Rattle.rules.specs.Net as columns

@@ -1,6 +1,6 @@
 -- A chain taken apart at its first wire.
-use Prim.Native.Nat.{ℕ, zero, suc, _+_, _-_, _*_, _≤_, _<_, min}
-use mathlib.Core.Path.{_≡_, refl, sym, subst, ap, _∙_}
+use Prim.Native.Nat.{ℕ, suc, _+_, _-_, _≤_}
+use mathlib.Core.Path.{_≡_, refl, sym, subst, _∙_}
 use native.Mathlib.Omega.{arith}
 use Rattle.rules.specs.Tree.{Hanging, none, sink, branch}
 use Rattle.frontier.specs.Cell.{Cell}

@@ -1,17 +1,16 @@
 -- What a wire's choice says comes to what a step of the pass asks: its offsets are good over its node, and its node's surplus is within its budget.
-use Prim.Native.Nat.{ℕ, zero, suc, _+_, _-_, _*_, _%_, _≤_, _<_, min}
+use Prim.Native.Nat.{ℕ, zero, suc, _+_, _-_, _*_, _≤_, min}
 use mathlib.Core.Path.{_≡_, refl, sym, subst, ap, _∙_}
-use mathlib.Core.List.{List}
 use lib.ListN.{length}
 use native.Mathlib.Omega.{arith}
 use native.Mathlib.Nat.{le-trans}
-use Rattle.rules.specs.Net.{Net, places, parent, wire, kind, pin, polarity}
-use Rattle.rules.specs.Tree.{hanging, under}
+use Rattle.rules.specs.Net.{Net, wire, kind, pin, polarity}
+use Rattle.rules.specs.Tree.{under}
 use Rattle.frontier.specs.Cell.{Kind, inv, Cell, turn}
-use Rattle.frontier.specs.Plan.{GoodW, topW}
-use Rattle.frontier.specs.Frontier.{State, lost, has, Acc, fail, all, ifz, acc, conv, close, leaf, width}
+use Rattle.frontier.specs.Plan.{topW}
+use Rattle.frontier.specs.Frontier.{State, lost, has, Acc, fail, all, ifz, acc, close, leaf, width}
 use Rattle.frontier.specs.Cert.{Table}
-use Rattle.frontier.proofs.Lower.{Tidy, close-tidy, leaf-tidy}
+use Rattle.frontier.proofs.Lower.{close-tidy, leaf-tidy}
 use Rattle.frontier.specs.Spaced.{spread}
 use Rattle.frontier.proofs.Attained.{spread-length}
 use Rattle.states.specs.States.{wireOf}
@@ -20,7 +19,7 @@ use Rattle.surplus.specs.Wires.{Alive, sideOf, nodeAt, liftOf}
 use Rattle.surplus.specs.Pairs.{NearOf}
 use Rattle.surplus.specs.Dealt.{f3}
 use Rattle.surplus.specs.Choice.{Under, Met, Meets, Aim, Budgeted, offsets, Owes, least, lower, same}
-use Rattle.surplus.specs.Walk.{Within, WireOk, Parts}
+use Rattle.surplus.specs.Walk.{WireOk, Parts}
 use Rattle.surplus.proofs.Aiming.{aim-met}
 use Rattle.surplus.proofs.Ending.{within-budget}
 use Rattle.surplus.proofs.Placing.{stacked, stack-length, offsets-are, Stands, stands}

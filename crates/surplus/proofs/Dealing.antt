@@ -1,18 +1,16 @@
 -- A surplus dealt out along a chain: each wire takes its part in turn, and whatever is done from the next wire on, what was dealt makes the whole of it.
-use Prim.Native.Nat.{ℕ, zero, suc, _+_, _-_, _*_, _≤_, _<_, min}
-use mathlib.Core.Path.{_≡_, refl, sym, subst, ap, _∙_}
-use mathlib.Core.List.{List}
+use Prim.Native.Nat.{ℕ, suc, _+_, _-_, _≤_, _<_, min}
+use mathlib.Core.Path.{_≡_, refl, sym, subst, _∙_}
 use native.Mathlib.Omega.{arith}
-use native.Mathlib.Decide.{ℕ-discrete}
 use Rattle.rules.specs.Tree.{Hanging, none, sink, branch}
 use Rattle.frontier.specs.Cell.{Cell}
-use Rattle.frontier.specs.Frontier.{State, lost, has, Acc, fail, all, conv, join, acc, width}
-use Rattle.surplus.specs.Rows.{loadAt, mixed, RowIs}
+use Rattle.frontier.specs.Frontier.{State, has, Acc, fail, all, conv, acc}
+use Rattle.surplus.specs.Rows.{mixed, RowIs}
 use Rattle.surplus.specs.Wires.{Alive, More, first, rest, tip, Ordered, Each}
 use Rattle.surplus.specs.Pairs.{PairOf}
 use Rattle.surplus.specs.Dealt.{f3, Shared, Takes, Dealt}
 use Rattle.surplus.proofs.Reading.{conv-mixed}
-use Rattle.surplus.proofs.Chains.{Split, split, rest-alive, dealt-first, dealt-rest, dealt-more, ordered-first, ordered-rest, each-first, each-rest}
+use Rattle.surplus.proofs.Chains.{split, rest-alive, dealt-more, ordered-first, ordered-rest, each-first, each-rest}
 
 -- ---- one wire's part
 module _ (τ : Cell) where

@@ -3,16 +3,15 @@ use Prim.Native.Nat.{ℕ, zero, suc, _+_, _-_, _*_, _≤_, _<_}
 use mathlib.Core.Path.{_≡_, refl, sym, subst, ap, _∙_}
 use mathlib.Core.List.{List}
 use native.Mathlib.Omega.{arith}
-use Rattle.rules.specs.Net.{Net, places, parent, kind, pin, polarity}
+use Rattle.rules.specs.Net.{Net, places, parent, pin, polarity}
 use Rattle.rules.specs.Tree.{hanging, under}
 use Rattle.rules.specs.Sound.{SoundNet}
 use Rattle.frontier.specs.Cell.{Cell}
-use Rattle.frontier.specs.Frontier.{State, lost, has, Acc, all, ifz, acc, join, conv, leaf, width}
-use Rattle.surplus.specs.Wires.{liftOf, nodeAt}
+use Rattle.frontier.specs.Frontier.{State, lost, has, all, ifz, acc, join, conv, leaf, width}
 use Rattle.surplus.specs.Pairs.{NearOf, nearState, Kept}
 use Rattle.surplus.specs.Choice.{Under, Owes, least, lower, same}
 use Rattle.surplus.specs.Walk.{Parts}
-use Rattle.surplus.specs.Tables.{nextAt, field, loAt, hiAt, countAt, SlotIs, NodeNear, NearIs, WiresJoined}
+use Rattle.surplus.specs.Tables.{nextAt, loAt, hiAt, countAt, SlotIs, NodeNear, WiresJoined}
 use Rattle.surplus.proofs.Trees.{acc-more}
 use Rattle.surplus.proofs.Meeting.{slot-at}
 

@@ -1,17 +1,16 @@
 -- The walk's invariant: what is settled so far makes the whole whatever comes after, the entries of the wires before i are written, and there is room for the rest.
-use Prim.Native.Nat.{ℕ, zero, suc, _+_, _-_, _*_, _≤_, _<_, min}
-use mathlib.Core.Path.{_≡_, refl, sym, subst, ap, _∙_}
-use mathlib.Core.List.{List, _++_}
+use Prim.Native.Nat.{ℕ, suc, _+_, _-_, _*_, _≤_, _<_, min}
+use mathlib.Core.Path.{_≡_, refl, subst, ap, _∙_}
+use mathlib.Core.List.{List}
 use native.Mathlib.Omega.{arith}
-use native.Mathlib.Decide.{ℕ-discrete}
 use lib.ListN.{length, getD, set, replicate, length-set, length-append, length-replicate}
 use lib.Seq.{sets, getD-set-same, getD-set-other}
 use Rattle.rules.specs.Figures.{mostPlaces}
 use Rattle.rules.specs.Net.{Net, places, parent, wire, kind}
-use Rattle.rules.specs.Tree.{hanging, under, tree}
+use Rattle.rules.specs.Tree.{under, tree}
 use Rattle.rules.specs.Sound.{SoundNet}
 use Rattle.frontier.specs.Cell.{Cell}
-use Rattle.frontier.specs.Frontier.{State, lost, has, Acc, fail, all, acc, close, width}
+use Rattle.frontier.specs.Frontier.{has, Acc, fail, all, acc, close, width}
 use Rattle.frontier.specs.Spaced.{steps}
 use Rattle.columns.proofs.Spacing.{steps-length}
 use Rattle.columns.proofs.Listing.{Listing, listing-none, listing-more, listing-all}

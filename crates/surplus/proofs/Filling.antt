@@ -1,22 +1,22 @@
 -- The way up, wire by wire: what the tables hold with nothing joined, and with one wire and one node more.
 use Prim.Native.Nat.{ℕ, zero, suc, _+_, _-_, _*_, _≤_, _<_, max}
-use mathlib.Core.Path.{_≡_, refl, sym, subst, ap, _∙_}
+use mathlib.Core.Path.{_≡_, refl, subst, ap, _∙_}
 use mathlib.Core.List.{List, [], _∷_}
 use native.Mathlib.Omega.{arith}
 use native.Mathlib.Decide.{ℕ-discrete}
-use lib.ListN.{length, getD, set, replicate, length-set, length-replicate, getD-replicate}
+use lib.ListN.{length, getD, set, length-set}
 use lib.Seq.{getD-set-same, getD-set-other}
 use Rattle.rules.specs.Figures.{mostPlaces}
 use Rattle.rules.specs.Net.{Net, places, parent, kind, pin, polarity}
-use Rattle.rules.specs.Tree.{Hanging, none, hanging, under}
+use Rattle.rules.specs.Tree.{none, hanging, under}
 use Rattle.rules.specs.Sound.{SoundNet}
 use Rattle.frontier.specs.Cell.{Cell}
-use Rattle.frontier.specs.Frontier.{State, Acc, acc, join, leaf, close, width}
+use Rattle.frontier.specs.Frontier.{State, Acc, acc, join, width}
 use Rattle.frontier.proofs.Lower.{Tidy, close-tidy, leaf-tidy}
 use Rattle.surplus.specs.Wires.{sideOf, nodeAt, liftOf}
-use Rattle.surplus.specs.Pairs.{PairOf, NearOf, nearState, Kept}
+use Rattle.surplus.specs.Pairs.{nearState, Kept}
 use Rattle.surplus.specs.Links.{First, Links}
-use Rattle.surplus.specs.Tables.{nextAt, headAt, side, field, loAt, hiAt, countAt, SlotIs, Hung, NodeNear, NearIs, WiresJoined, NodesClosed, Filled}
+use Rattle.surplus.specs.Tables.{nextAt, headAt, side, field, loAt, hiAt, countAt, SlotIs, Hung, NodeNear, NearIs, WiresJoined, NodesClosed}
 use Rattle.surplus.proofs.Trees.{acc-more}
 use Rattle.surplus.proofs.Pairs.{near-state}
 use Rattle.surplus.proofs.Linking.{links-start, links-more}
@@ -94,10 +94,6 @@ module _ (τ : Cell) {n : Net} (sound : SoundNet n) {i : ℕ} (lo : 1 ≤ i) (h 
   }
 
 -- ---- one node more
-pub near-closed : (τ : Cell) (n : Net) (p j κ h h₁ o : ℕ) → (κ ≡ 0 → NearOf τ (2 * width (under n j)) (acc τ (under n j) p) h h₁ o) → ((κ ≡ 0 → ⊥) → leaf τ (pin n j) (polarity n j) p ≡ nearState 1 h h₁ o) → NodeNear τ n p j κ h h₁ o
-near-closed τ n p j zero h h₁ o f g = f refl
-near-closed τ n p j (suc κ) h h₁ o f g = g (λ z. omega arith)
-
 module _ (τ : Cell) {n : Net} {i : ℕ} (few : i < mostPlaces) {near : List (List ℕ)} (w : NodesClosed τ n near (suc i)) (a b c x y z : ℕ)
     (plus : NodeNear τ n 0 i (kind n i) a b c) (minus : NodeNear τ n 1 i (kind n i) x y z) where
   near′ : List (List ℕ)

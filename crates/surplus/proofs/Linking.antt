@@ -1,10 +1,10 @@
 -- The links that the way up makes are the chains of the nodes' wires.
-use Prim.Native.Nat.{ℕ, zero, suc, _+_, _-_, _*_, _≤_, _<_, min, max}
-use mathlib.Core.Path.{_≡_, refl, sym, subst, ap, _∙_}
+use Prim.Native.Nat.{ℕ, zero, suc, _-_, _≤_, _<_, max}
+use mathlib.Core.Path.{_≡_, refl, sym, subst, _∙_}
 use native.Mathlib.Omega.{arith}
 use native.Mathlib.Decide.{ℕ-discrete, decLe}
 use Rattle.rules.specs.Net.{Net, places, parent, wire, kind, pin, polarity}
-use Rattle.rules.specs.Tree.{Hanging, none, sink, branch, hanging, under, tree}
+use Rattle.rules.specs.Tree.{Hanging, hanging, under}
 use Rattle.rules.specs.Sound.{SoundNet}
 use Rattle.rules.proofs.Hanging.{hanging-skip, hanging-end}
 use Rattle.frontier.specs.Cell.{Cell}

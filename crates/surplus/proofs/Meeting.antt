@@ -1,29 +1,28 @@
 -- What the tables hold of a net meets what is asked of them at each node: its slot, its chain, and that the numbers are small.
-use Prim.Native.Nat.{ℕ, zero, suc, _+_, _-_, _*_, _≤_, _<_, max}
-use mathlib.Core.Path.{_≡_, refl, sym, subst, ap, _∙_}
-use mathlib.Core.Logic.{_⊎_, inl, inr}
+use Prim.Native.Nat.{ℕ, zero, suc, _+_, _-_, _≤_, _<_}
+use mathlib.Core.Path.{_≡_, refl, sym, subst, _∙_}
+use mathlib.Core.Logic.{inl, inr}
 use mathlib.Core.List.{List}
 use native.Mathlib.Omega.{arith}
 use native.Mathlib.Decide.{ℕ-discrete}
-use lib.ListN.{length, getD}
+use lib.ListN.{length}
 use Rattle.rules.specs.Figures.{mostPlaces}
 use Rattle.rules.specs.Net.{Net, places, parent, wire, kind, pin, polarity}
 use Rattle.rules.specs.Tree.{Hanging, none, sink, branch, hanging, under}
 use Rattle.rules.specs.Sound.{SoundNet}
 use Rattle.rules.proofs.Hanging.{hanging-skip, hanging-end}
 use Rattle.frontier.specs.Cell.{Cell}
-use Rattle.frontier.specs.Frontier.{State, lost, has, Acc, fail, all, acc, leaf, width}
+use Rattle.frontier.specs.Frontier.{State, lost, has, Acc, fail, all, acc}
 use Rattle.states.specs.States.{SmallS}
 use Rattle.surplus.specs.Rows.{SmallAcc}
-use Rattle.surplus.specs.Wires.{tip, Each, On, Alive, Ordered, nodeAt, liftOf}
-use Rattle.surplus.specs.Pairs.{PairOf, NearOf, nearState}
+use Rattle.surplus.specs.Wires.{tip, Each, On, Alive, liftOf}
+use Rattle.surplus.specs.Pairs.{PairOf}
 use Rattle.surplus.specs.Links.{First}
-use Rattle.surplus.specs.Tables.{nextAt, headAt, loAt, hiAt, countAt, zeroAt, oneAt, field, SlotIs, NodeNear, NearIs, WiresJoined, NodesClosed, Filled}
+use Rattle.surplus.specs.Tables.{nextAt, headAt, loAt, hiAt, countAt, zeroAt, oneAt, SlotIs, WiresJoined}
 use Rattle.surplus.specs.Asks.{SmallTip, Smalls, Runs, AsksClose, PairIs, Paired, partAt, Asks}
 use Rattle.surplus.proofs.Trees.{grow, grown, width-few}
 use Rattle.surplus.proofs.Bounds.{acc-small, lift-small}
 use Rattle.surplus.proofs.Chains.{rest-alive}
-use Rattle.surplus.proofs.Pairs.{near-state}
 use Rattle.surplus.proofs.Linking.{chain-by}
 use Rattle.surplus.proofs.Passing.{hanging-ordered, hanging-ours, hanging-each, ordered-down}
 

@@ -1,11 +1,10 @@
 -- The two loads of a slot are made wire by wire, and decide the node where the first of them fits.
-use Prim.Native.Nat.{ℕ, zero, suc, _+_, _-_, _*_, _≤_, _<_, min}
-use mathlib.Core.Path.{_≡_, refl, sym, subst, ap, _∙_}
+use Prim.Native.Nat.{ℕ, zero, suc, _+_, _-_, _≤_, _<_, min}
+use mathlib.Core.Path.{_≡_, refl, sym, subst, _∙_}
 use native.Mathlib.Omega.{arith}
 use native.Mathlib.Decide.{decLt}
-use Rattle.rules.specs.Tree.{Hanging, none, sink, branch}
 use Rattle.frontier.specs.Cell.{Cell}
-use Rattle.frontier.specs.Frontier.{State, lost, has, Acc, fail, all, conv, join, closeAt, close, acc}
+use Rattle.frontier.specs.Frontier.{State, lost, has, Acc, fail, all, conv, join, closeAt, close}
 use Rattle.states.proofs.Sinks.{ifz-yes, ifz-no}
 use Rattle.surplus.specs.Pairs.{PairOf, Fits, NearOf, nearState}
 use Rattle.surplus.specs.Choice.{Under, Budgeted}
@@ -20,15 +19,7 @@ module _ (τ : Cell) where
   unfolding conv
   conv-at-1 a b g x y e f = rw (e, f)
 
-  pub conv-pair : (a b : ℕ) (g h : ℕ → ℕ) → g 0 ≡ h 0 → g 1 ≡ h 1 → (conv τ a b g 0 ≡ conv τ a b h 0) × (conv τ a b g 1 ≡ conv τ a b h 1)
-  unfolding conv
-  conv-pair a b g h e f = (rw e, rw (e, f))
-
   -- ---- the slot
-  pub pair-none : (p : ℕ) → PairOf 1 0 0 (acc τ none p)
-  unfolding acc
-  pair-none p = (refl, refl, refl)
-
   pub pair-lost : (x y : ℕ) (s : State) (z : Acc) → s ≡ lost → PairOf 0 x y (join τ s z)
   unfolding join
   pair-lost x y lost z e = refl
@@ -81,13 +72,6 @@ module _ (τ : Cell) where
   near-state last c x y h h₁ o fail q k = let e : c ≡ 0 = q in rw e
   near-state last c x y h h₁ zero (all m g) q k = rw (q .0) (closeAt-not last m 0 g (λ j l u. k j (omega arith)))
   near-state last c x y h h₁ (suc E) (all m g) q k = rw (q .0, k .2, k .3) (closeAt-is last m 0 E g (omega arith) (omega (arith, k .0)) (k .1))
-
-  -- the short form of it
-  pub pair-close : (last c x y m : ℕ) (z : Acc) → PairOf c x y z → c ≡ suc m → x ≤ τ.cu → close τ last z ≡ has m x (min x y)
-  pair-close last c x y m z q e h =
-      let k = near-state last c x y x (min x y) 1 z q (near-fits last c x y z q (λ d. omega arith) h) in
-      let n : m + 0 ≡ m = omega arith in
-      k ∙ (rw (e, n))
 
   -- ---- the surplus that the node is to have
   -- its least count asks for the least fitting surplus, and one more repeater for one more, where that lowers the load

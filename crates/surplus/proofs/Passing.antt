@@ -1,10 +1,9 @@
 -- The pass in rising wire order: each wire's part was dealt when its parent was reached, so the pass finds it decided.
 use Prim.Native.Nat.{ℕ, zero, suc, _+_, _-_, _*_, _≤_, _<_, min}
-use mathlib.Core.Path.{_≡_, refl, sym, subst, ap, _∙_}
+use mathlib.Core.Path.{_≡_, refl, sym, subst, _∙_}
 use mathlib.Core.List.{List}
 use native.Mathlib.Omega.{arith}
 use native.Mathlib.Decide.{ℕ-discrete}
-use Rattle.rules.specs.Choose.{pick}
 use Rattle.rules.specs.Net.{Net, places, parent, wire, kind, pin, polarity}
 use Rattle.rules.specs.Tree.{Hanging, none, sink, branch, hanging, under, tree}
 use Rattle.rules.specs.Sound.{SoundNet}
@@ -13,7 +12,7 @@ use Rattle.frontier.specs.Cell.{Cell}
 use Rattle.frontier.specs.Plan.{planOf, count, Settled}
 use Rattle.frontier.specs.Frontier.{State, lost, has, Acc, fail, all, conv, acc, close, width}
 use Rattle.frontier.specs.Cert.{Table}
-use Rattle.surplus.specs.Wires.{liftOf, Alive, More, first, rest, tip, Ordered, Each}
+use Rattle.surplus.specs.Wires.{liftOf, Alive, rest, Ordered, Each}
 use Rattle.surplus.specs.Dealt.{f3, Takes, Dealt}
 use Rattle.surplus.specs.Choice.{Budgeted}
 use Rattle.surplus.specs.Walk.{WireOk, Parts}

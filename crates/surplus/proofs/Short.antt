@@ -1,9 +1,9 @@
 -- What a wire hands up fits, and a wire that takes no surplus stands without inverters where that meets its count and its load.
-use Prim.Native.Nat.{ℕ, zero, suc, _+_, _-_, _≤_, _<_, min}
+use Prim.Native.Nat.{ℕ, zero, suc, _+_, _-_, _≤_}
 use mathlib.Core.Path.{_≡_, refl, sym}
 use native.Mathlib.Omega.{arith}
 use Rattle.frontier.specs.Cell.{inv, Cell}
-use Rattle.frontier.specs.Frontier.{State, lost, has, mergeBy, merge, req, T, second, cand, via}
+use Rattle.frontier.specs.Frontier.{State, lost, has, mergeBy, merge, req, second, cand, via}
 use Rattle.frontier.proofs.Lower.{Tidy, req-ok, T-fits}
 use Rattle.states.specs.States.{wireOf}
 use Rattle.states.proofs.Short.{req-even}

@@ -5,14 +5,13 @@ use mathlib.Core.List.{List}
 use native.Mathlib.Omega.{arith}
 use native.Mathlib.Decide.{ℕ-discrete}
 use lib.ListN.{length}
-use Rattle.rules.specs.Net.{Net, places, parent, wire, kind, pin, polarity}
+use Rattle.rules.specs.Net.{Net, places, parent, kind}
 use Rattle.rules.specs.Tree.{Hanging, hanging, under, tree}
 use Rattle.rules.specs.Sound.{SoundNet}
 use Rattle.rules.proofs.Hanging.{hanging-skip}
 use Rattle.frontier.specs.Cell.{Cell}
-use Rattle.frontier.specs.Frontier.{State, has, Acc, fail, all, acc, join, conv}
+use Rattle.frontier.specs.Frontier.{State, has, Acc, fail, all, acc, join}
 use Rattle.frontier.specs.Cert.{Table}
-use Rattle.surplus.specs.Wires.{liftOf}
 use Rattle.surplus.specs.Dealt.{f3}
 use Rattle.surplus.specs.Walk.{Within, WireOk, Parts}
 use Rattle.surplus.proofs.Trees.{sums, acc-more}

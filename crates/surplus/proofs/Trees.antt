@@ -5,7 +5,6 @@ use mathlib.Core.Path.{_≡_, refl, sym, ap, _∙_}
 use mathlib.Core.Bool.{Bool, true, false}
 use native.Mathlib.Omega.{arith}
 use native.Mathlib.Decide.{ℕ-discrete}
-use lib.ListN.{length, getD}
 use lib.Dec.{eqb}
 use borrow.Author.Tests.{eq-eqb, ne-eqb}
 use Rattle.rules.specs.Figures.{mostChildren}
@@ -16,7 +15,7 @@ use Rattle.rules.specs.Judge.{children}
 use Rattle.rules.specs.Sound.{SoundNet}
 use Rattle.rules.proofs.Hanging.{hanging-take}
 use Rattle.frontier.specs.Cell.{Cell}
-use Rattle.frontier.specs.Frontier.{State, Acc, acc, join, width}
+use Rattle.frontier.specs.Frontier.{acc, join, width}
 use Rattle.frontier.specs.Frontier as frontier
 use Rattle.surplus.specs.Wires.{sideOf, liftOf}
 
@@ -46,13 +45,6 @@ acc-grow τ (suc k) i w c s f r p = refl
 -- wire i joined to the wires after it
 pub acc-more : (τ : Cell) {n : Net} → SoundNet n → (i p : ℕ) → i < places n → join τ (liftOf τ n i p) (acc τ (hanging n (places n - suc i) (parent n i)) p) ≡ acc τ (hanging n (places n - i) (parent n i)) p
 acc-more τ {n} s i p h = sym (ap (λ (f : Hanging). acc τ f p) (grown s i (parent n i) h refl) ∙ acc-grow τ (kind n i) i (wire n i) (pin n i) (polarity n i) (under n i) (hanging n (places n - suc i) (parent n i)) p)
-
-width-grow : (k i w c s : ℕ) (f r : Hanging) → width (grow k i w c s f r) ≡ suc (width r)
-width-grow zero i w c s f r = refl
-width-grow (suc k) i w c s f r = refl
-
-pub width-more : {n : Net} → SoundNet n → (i v : ℕ) → i < places n → parent n i ≡ v → width (hanging n (places n - i) v) ≡ suc (width (hanging n (places n - suc i) v))
-width-more {n} s i v h e = ap width (grown s i v h e) ∙ width-grow (kind n i) i (wire n i) (pin n i) (polarity n i) (under n i) (hanging n (places n - suc i) v)
 
 -- ---- at most so many under one point
 width-hung : (b : Bool) (i w c s : ℕ) (f r : Hanging) → width (pick b (sink i w c s r) (branch i w f r)) ≡ suc (width r)

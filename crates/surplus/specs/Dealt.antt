@@ -1,6 +1,5 @@
 -- A surplus dealt out to the wires under a point, each one's part.
 use Prim.Native.Nat.{ℕ, zero, suc, _+_, _-_, _≤_, min}
-use mathlib.Core.Path.{_≡_}
 use Rattle.rules.specs.Tree.{Hanging, none, sink, branch}
 use Rattle.frontier.specs.Cell.{Cell}
 use Rattle.frontier.specs.Frontier.{State, lost, has, Acc, fail, all, conv, acc}

@@ -1,16 +1,15 @@
 -- What the walk down is asked at each wire and settles of it, and what it comes to.
-use Prim.Native.Nat.{ℕ, zero, suc, _+_, _*_, _≤_, _<_, min}
+use Prim.Native.Nat.{ℕ, _+_, _*_, _≤_, _<_, min}
 use mathlib.Core.Path.{_≡_}
 use mathlib.Core.List.{List}
 use lib.ListN.{length, getD}
-use lib.Seq.{sets}
 use Rattle.rules.specs.Figures.{mostPlaces}
 use Rattle.rules.specs.Net.{Net, places, parent, wire, kind}
 use Rattle.rules.specs.Tree.{under, tree}
 use Rattle.rules.specs.Sound.{SoundNet}
 use Rattle.frontier.specs.Cell.{inv, Cell}
 use Rattle.frontier.specs.Plan.{planOf, count, Settled}
-use Rattle.frontier.specs.Frontier.{State, lost, has, Acc, acc, close, width}
+use Rattle.frontier.specs.Frontier.{State, lost, has, acc, close, width}
 use Rattle.frontier.specs.Cert.{Table}
 use Rattle.frontier.specs.Placed.{placed}
 use Rattle.columns.specs.Columns.{Holds}

@@ -1,5 +1,5 @@
 -- A node's first wire and a wire's next one, as the way up leaves them: the chain of the node's wires.
-use Prim.Native.Nat.{ℕ, zero, suc, _-_, _≤_, _<_, max}
+use Prim.Native.Nat.{ℕ, suc, _-_, _≤_, _<_, max}
 use mathlib.Core.Path.{_≡_}
 use Rattle.rules.specs.Net.{Net, places, parent}
 use Rattle.rules.specs.Tree.{Hanging, none, sink, branch, hanging}

@@ -1,7 +1,6 @@
 -- What the walk down knows of each wire, and of the wires that are left.
-use Prim.Native.Nat.{ℕ, zero, suc, _+_, _-_, _≤_, min}
+use Prim.Native.Nat.{ℕ, zero, suc, _+_, _-_, _≤_}
 use mathlib.Core.Path.{_≡_}
-use mathlib.Core.List.{List}
 use lib.ListN.{length}
 use Rattle.rules.specs.Net.{Net, places, parent, wire, pin, polarity}
 use Rattle.rules.specs.Tree.{hanging, under}

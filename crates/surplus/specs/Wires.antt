@@ -2,11 +2,11 @@
 use Prim.Native.Nat.{ℕ, zero, suc, _*_, _≤_}
 use mathlib.Core.Path.{_≡_}
 use mathlib.Core.Logic.{_⊎_}
-use Rattle.rules.specs.Net.{Net, places, parent, wire, kind, pin, polarity}
-use Rattle.rules.specs.Tree.{Hanging, none, sink, branch, hanging, under}
+use Rattle.rules.specs.Net.{Net, wire, kind, pin, polarity}
+use Rattle.rules.specs.Tree.{Hanging, none, sink, branch, under}
 use Rattle.frontier.specs.Cell.{Cell}
 use Rattle.frontier.specs.Frontier as frontier
-use Rattle.frontier.specs.Frontier.{State, lost, has, Acc, fail, all, close, leaf, acc, width}
+use Rattle.frontier.specs.Frontier.{State, lost, Acc, fail, all, close, leaf, acc, width}
 
 abbrev pub More : Hanging → Type 0
 More none = ⊥

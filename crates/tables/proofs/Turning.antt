@@ -3,17 +3,17 @@ use Prim.Native.Nat.{ℕ, zero, suc, _+_, _-_, _*_, _≤_, _<_, max}
 use mathlib.Core.Path.{_≡_, refl, sym, subst, ap, _∙_}
 use mathlib.Core.List.{List, [], _∷_}
 use native.Mathlib.Omega.{arith}
-use lib.ListN.{length, set}
+use lib.ListN.{set}
 use Rattle.rules.specs.Figures.{mostPlaces}
 use Rattle.rules.specs.Net.{Net, places, parent, wire, kind, pin, polarity}
 use Rattle.rules.specs.Tree.{Hanging, hanging, under}
 use Rattle.rules.specs.Sound.{SoundNet}
 use Rattle.frontier.specs.Cell as model
-use Rattle.frontier.specs.Frontier.{State, lost, has, leaf, acc}
-use Rattle.frontier.proofs.Lower.{Tidy}
+use Rattle.frontier.specs.Frontier.{State, leaf, acc}
 use Rattle.states.specs.declared.Cell.{Cell}
 use Rattle.states.specs.States.{modelOf, CellOk, SmallS, Falls, wireOf}
 use Rattle.states.proofs.Leaves.{small-up}
+use Rattle.states.proofs.Short.{tidy-falls}
 use Rattle.rows.specs.declared.Closed.{Closed}
 use Rattle.surplus.specs.Wires.{nodeAt, liftOf}
 use Rattle.surplus.specs.Pairs.{nearState}
@@ -85,11 +85,7 @@ module _ {c : Cell} (ok : CellOk c) {n : Net} {w : ℕ} {links : List ℕ} {slot
       is-small = rw is-node (node-small (modelOf c) (ok .eq) (ok .pos) (ok .small) (g .sound) i p (g .here) lp)
 
       pub is-falling : Falls s
-      is-falling = rw is-node (falls (nodeAt (modelOf c) n i p) (node-tidy (modelOf c) (ok .eq) (ok .pos) n i p))
-        where
-          falls : (s : State) → Tidy (modelOf c) s → Falls s
-          falls lost t = tt
-          falls (has m a b) t = t .1
+      is-falling = rw is-node (tidy-falls (modelOf c) (nodeAt (modelOf c) n i p) (node-tidy (modelOf c) (ok .eq) (ok .pos) n i p))
 
   -- the wires after it under its parent
   module _ {k : ℕ} (e : k ≡ headAt links v) where

@@ -5,8 +5,7 @@ use states::Cell;
 use states::Side;
 use states::Sides;
 ghost use mathlib.Core.Path.{_≡_};
-ghost use Prim.Native.Nat.{ℕ, suc, _+_, _*_, _<_, _≤_};
-ghost use mathlib.Core.List.{List};
+ghost use Prim.Native.Nat.{suc, _+_, _*_, _<_, _≤_};
 ghost use lib.ListN.{length, set};
 ghost use Rattle.rules.specs.Figures.{mostPlaces, mostChildren, mostWire};
 ghost use Rattle.rules.specs.Tree.{Hanging};
@@ -15,7 +14,7 @@ ghost use Rattle.rules.specs.Sound.{SoundNet};
 ghost use Rattle.frontier.specs.Frontier;
 ghost use Rattle.states.specs.States.{modelOf, limitsOf, st, CellOk, Small};
 ghost use Rattle.surplus.specs.Pairs.{nearState};
-ghost use Rattle.surplus.specs.Tables.{headAt, field, countAt, SlotSmall, Hung, NearIs, WiresJoined, NodesClosed, Filled};
+ghost use Rattle.surplus.specs.Tables.{headAt, field, countAt, SlotSmall, Hung, WiresJoined, NodesClosed, Filled};
 ghost use Rattle.surplus.specs.Asks.{AskedClose, AsksClose};
 ghost use Rattle.tables.specs.Turns.{SideIs, Hangs};
 

@@ -1,23 +1,20 @@
 -- What the walk settles of a wire, out of the tables and of the tries of crate `cuts`.
-use Prim.Native.Nat.{ℕ, zero, suc, _+_, _-_, _*_, _≤_, _<_, min}
+use Prim.Native.Nat.{ℕ, suc, _+_, _-_, _≤_, _<_}
 use mathlib.Core.Path.{_≡_, refl, sym, subst, ap, _∙_}
 use mathlib.Core.List.{List}
 use native.Mathlib.Omega.{arith}
 use Rattle.rules.specs.Figures.{mostPlaces}
-use Rattle.rules.specs.Net.{Net, places, parent, wire, kind}
-use Rattle.rules.specs.Tree.{hanging, under}
-use Rattle.rules.specs.Sound.{SoundNet}
+use Rattle.rules.specs.Net.{Net, places, wire, kind}
+use Rattle.rules.specs.Tree.{under}
 use Rattle.frontier.specs.Cell as model
 use Rattle.frontier.specs.Frontier.{State, lost, has, acc}
 use Rattle.frontier.specs.Spaced.{steps}
 use Rattle.frontier.proofs.Lower.{Tidy}
 use Rattle.states.specs.declared.Cell.{Cell}
-use Rattle.states.specs.States.{modelOf, CellOk, SmallS, wireOf}
-use Rattle.surplus.specs.Wires.{nodeAt, liftOf}
+use Rattle.states.specs.States.{modelOf, CellOk, SmallS}
+use Rattle.surplus.specs.Wires.{nodeAt}
 use Rattle.surplus.specs.Pairs.{nearState}
-use Rattle.surplus.specs.Links.{First}
 use Rattle.surplus.specs.Choice.{Under, Met, Meets, Aim, Owes, offsets}
-use Rattle.surplus.specs.Walk.{Parts}
 use Rattle.surplus.specs.Tables.{nextAt, headAt, field, loAt, hiAt, countAt}
 use Rattle.surplus.specs.Descent.{Stays, Cutting, Targeted, Decided}
 use Rattle.surplus.proofs.Bounds.{acc-small, node-small, lift-small}

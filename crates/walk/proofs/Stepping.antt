@@ -1,10 +1,10 @@
 -- One step of the walk: what it asks of each call, and what it comes to.
-use Prim.Native.Nat.{ℕ, zero, suc, _+_, _-_, _*_, _≤_, _<_}
-use mathlib.Core.Path.{_≡_, refl, sym, subst, ap, _∙_}
+use Prim.Native.Nat.{ℕ, suc, _+_, _-_, _≤_, _<_}
+use mathlib.Core.Path.{_≡_, refl, subst, ap}
 use mathlib.Core.List.{List}
 use native.Mathlib.Omega.{arith}
 use native.Mathlib.Decide.{ℕ-discrete}
-use lib.ListN.{length, getD, set, replicate}
+use lib.ListN.{length, set, replicate}
 use lib.Seq.{sets}
 use Rattle.rules.specs.Net.{Net, places, parent, wire, kind}
 use Rattle.rules.specs.Tree.{under}
@@ -15,7 +15,7 @@ use Rattle.states.specs.States.{modelOf, CellOk}
 use Rattle.columns.proofs.Listing.{wires-long, offsets-long}
 use Rattle.surplus.specs.Choice.{offsets}
 use Rattle.surplus.specs.Tables.{headAt, WiresJoined, NodesClosed}
-use Rattle.surplus.specs.Asks.{partAt, Asks, Asked, Out}
+use Rattle.surplus.specs.Asks.{partAt, Asks, Out}
 use Rattle.surplus.specs.Descent.{Cutting, Decided}
 use Rattle.walk.specs.Steps.{Handed}
 use Rattle.surplus.proofs.Meeting.{asks-under}

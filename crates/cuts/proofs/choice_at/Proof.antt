@@ -1,6 +1,5 @@
 -- One candidate, by its count and its load; each refusal says why it does not meet the target.
 use native.Mathlib.Omega.{arith}
-use mathlib.Core.Path.{refl}
 use Rattle.states.specs.States.{modelOf}
 use Rattle.states.proofs.Leaves.{req-le, req-room}
 use Rattle.cuts.proofs.Choosing.{no-load}

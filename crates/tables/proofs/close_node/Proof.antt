@@ -1,8 +1,6 @@
 -- Node i at both polarities, each by the wires that hang there.
 use native.Mathlib.Omega.{arith}
-use mathlib.Core.Path.{sym, _∙_}
-use Rattle.rules.specs.Net.{net}
-use Rattle.rules.specs.Tree.{under}
+use mathlib.Core.Path.{_∙_}
 use Rattle.tables.proofs.Turning.{slot-low, closes, noted}
 use borrow.Author.Needs.{needs}
 use Rattle.tables.proofs.close_node.Statement.{statement}

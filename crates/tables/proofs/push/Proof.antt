@@ -1,6 +1,6 @@
 -- One turn of the pass: the node is closed over the wires joined so far, then its own wire is joined.
 use native.Mathlib.Omega.{arith}
-use mathlib.Core.Path.{refl, ap, _∙_}
+use mathlib.Core.Path.{refl, ap}
 use Rattle.frontier.specs.Cell.{kindOf}
 use borrow.Author.Needs.{needs}
 use Rattle.tables.proofs.push.Statement.{statement}

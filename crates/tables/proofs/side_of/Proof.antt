@@ -1,5 +1,4 @@
 -- What is kept of a node, read as its state: lost where the slot has no count or the node took no surplus.
-use native.Mathlib.Omega.{arith}
 use mathlib.Core.Path.{sym, _∙_}
 use Rattle.surplus.specs.Tables.{countAt, field}
 use Rattle.surplus.proofs.Pairs.{state-lost, state-none, state-has}

@@ -1,7 +1,6 @@
 -- The choice over the node's two states, and the surplus that it asks of the node.
 use native.Mathlib.Omega.{arith}
 use mathlib.Core.Path.{subst}
-use Rattle.states.specs.States.{modelOf, st}
 use Rattle.cuts.specs.Tries.{TurnOk}
 use Rattle.walk.proofs.Settling.{in-places, is-node, is-small, can-meet, some, decided-same, decided-other}
 use borrow.Author.Needs.{needs}
