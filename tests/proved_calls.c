@@ -151,13 +151,15 @@ static struct ref_answer carry(struct ref_limits first_limits, struct net_column
     fence_anew();
     struct net_columns a = lend_net(first), b = lend_net(second);
     struct entry_columns list = lend_entries(placement);
-    uint32_t *which = LEND(&(uint32_t){9}, 1);
-    uint64_t *place = lend_place();
-    uint32_t number = proved_carry(LIMITS(first_limits), COLUMNS(a), LIMITS(second_limits),
-                                   COLUMNS(b), ENTRIES(list), which, place);
+    const uint32_t limits[] = {first_limits.limit, first_limits.pin,
+                               second_limits.limit, second_limits.pin};
+    const uint8_t repeaters[] = {first_limits.type, second_limits.type};
+    uint64_t *told = LEND(((uint64_t[]){9, 9}), 2);
+    uint32_t number = proved_carry(LEND(limits, 4), LEND(repeaters, 2), COLUMNS(a), COLUMNS(b),
+                                   ENTRIES(list), told);
     TAKE_BACK(placement.offset, list.offset, placement.offsets);
-    *refused_net = (int)*which;
-    return (struct ref_answer){number, *place};
+    *refused_net = (int)told[0];
+    return (struct ref_answer){number, told[1]};
 }
 
 static struct ref_answer finish(struct ref_limits limits, struct net_columns net,

@@ -48,17 +48,16 @@ uint32_t proved_list_drives(uint32_t limit, uint32_t cb, uint8_t repeater,
                             const uint32_t *offset, size_t offsets,
                             uint64_t *out, size_t room, uint64_t *source, uint64_t *place);
 
-uint32_t proved_carry(uint32_t limit, uint32_t cb, uint8_t repeater,
+uint32_t proved_carry(const uint32_t limits[4], const uint8_t repeaters[2],
                       const uint16_t *parent, size_t parents, const uint32_t *wire, size_t wires,
                       const uint8_t *kind, size_t kinds, const uint32_t *pin, size_t pins,
                       const uint8_t *polarity, size_t polarities,
-                      uint32_t limit2, uint32_t cb2, uint8_t repeater2,
                       const uint16_t *parent2, size_t parents2,
                       const uint32_t *wire2, size_t wires2, const uint8_t *kind2, size_t kinds2,
                       const uint32_t *pin2, size_t pins2,
                       const uint8_t *polarity2, size_t polarities2,
                       const uint16_t *entry_wire, size_t entry_wires,
-                      uint32_t *offset, size_t offsets, uint32_t *which, uint64_t *place);
+                      uint32_t *offset, size_t offsets, uint64_t told[2]);
 
 uint32_t proved_finish(uint32_t limit, uint32_t cb, uint8_t repeater,
                        const uint16_t *parent, size_t parents, const uint32_t *wire, size_t wires,

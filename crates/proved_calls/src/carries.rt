@@ -3,9 +3,9 @@ use carry::Outcome;
 use rules::Limits;
 ghost use mathlib.Core.Path.{_≡_};
 ghost use Rattle.rules.specs.Net.{netAt};
-ghost use Rattle.proved_calls.specs.Answers.{limitsOf};
+ghost use lib.ListN.{getD};
 ghost use Rattle.carry.specs.Carry.{outcomeNumber, outcomeCount, whichNet};
-ghost use Rattle.proved_calls.specs.Carries.{Carries};
+ghost use Rattle.proved_calls.specs.Carries.{limitsAt, Carries};
 
 fn outcome_number(said: Outcome) -> u32
     ensures { λ n. ⌜ n ≡ outcomeNumber said ⌝ }
@@ -40,19 +40,16 @@ fn which_net(said: Outcome) -> u32
     }
 }
 
+// The limits of both nets, C_U and C_b of the one and then of the other, and their repeaters; then which net was refused, and the place.
 #[no_mangle]
 pub extern "C" fn proved_carry(
-    limit: u32,
-    cb: u32,
-    repeater: u8,
+    limits: &[u32; 4],
+    repeaters: &[u8; 2],
     parent: &[u16],
     wire: &[u32],
     kind: &[u8],
     pin: &[u32],
     polarity: &[u8],
-    limit2: u32,
-    cb2: u32,
-    repeater2: u8,
     parent2: &[u16],
     wire2: &[u32],
     kind2: &[u8],
@@ -60,20 +57,19 @@ pub extern "C" fn proved_carry(
     polarity2: &[u8],
     wires: &[u16],
     offsets: &mut [u32],
-    which: &mut u32,
-    place: &mut u64,
+    told: &mut [u64; 2],
 ) -> u32
-    ensures { λ n. ⌜ Carries (netAt (limitsOf limit cb repeater) (parent .entry) (wire .entry) (kind .entry) (pin .entry) (polarity .entry)) (netAt (limitsOf limit2 cb2 repeater2) (parent2 .entry) (wire2 .entry) (kind2 .entry) (pin2 .entry) (polarity2 .entry)) (now (wires .entry)) (now (offsets .entry)) (now (offsets .exit)) (now (which .exit)) n (now (place .exit)) ⌝ }
+    ensures { λ n. ⌜ Carries (netAt (limitsAt (now (limits .entry)) (now (repeaters .entry)) 0) (parent .entry) (wire .entry) (kind .entry) (pin .entry) (polarity .entry)) (netAt (limitsAt (now (limits .entry)) (now (repeaters .entry)) 1) (parent2 .entry) (wire2 .entry) (kind2 .entry) (pin2 .entry) (polarity2 .entry)) (now (wires .entry)) (now (offsets .entry)) (now (offsets .exit)) (getD (now (told .exit)) 0 0) n (getD (now (told .exit)) 1 0) ⌝ }
 {
     let first = Limits {
-        limit: limit,
-        pin: cb,
-        repeater: repeater,
+        limit: limits[0],
+        pin: limits[1],
+        repeater: repeaters[0],
     };
     let second = Limits {
-        limit: limit2,
-        pin: cb2,
-        repeater: repeater2,
+        limit: limits[2],
+        pin: limits[3],
+        repeater: repeaters[1],
     };
     let said = carry::carry(
         first,
@@ -91,7 +87,6 @@ pub extern "C" fn proved_carry(
         wires,
         offsets,
     );
-    *which = which_net(said);
-    *place = outcome_count(said);
+    *told = [which_net(said) as u64, outcome_count(said)];
     outcome_number(said)
 }

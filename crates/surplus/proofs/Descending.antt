@@ -21,7 +21,8 @@ use Rattle.surplus.specs.Walk.{Parts}
 use Rattle.surplus.specs.Asks.{partAt, Out}
 use Rattle.surplus.specs.Descent.{Decided, Begun, Written}
 use Rattle.surplus.proofs.Dealing.{dealt-0}
-use Rattle.surplus.proofs.Passing.{Pass, pass-start, pass-part, pass-sense, pass-fresh, pass-on, pass-end, hanging-each, upd, upd-same, upd-other}
+use Rattle.surplus.proofs.Going.{upd, upd-same, upd-other}
+use Rattle.surplus.proofs.Passing.{Pass, pass-start, pass-part, pass-sense, pass-fresh, pass-on, pass-end, hanging-each}
 use Rattle.surplus.proofs.Meeting.{not-ours}
 use Rattle.surplus.proofs.Spending.{Owing, Spent, spent-start, spent-room, spent-on}
 

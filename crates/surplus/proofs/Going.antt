@@ -19,20 +19,20 @@ use Rattle.surplus.proofs.Walking.{Done, step-down}
 use Rattle.surplus.proofs.Ending.{done-end}
 
 -- a function with one value changed
-sel : ℕ → ℕ → ℕ → ℕ
+sel : {A : Type 0} → ℕ → A → A → A
 sel zero x y = x
 sel (suc z) x y = y
 
-up : (ℕ → ℕ) → ℕ → ℕ → ℕ → ℕ
-up f i x j = sel ((j - i) + (i - j)) x (f j)
+pub upd : {A : Type 0} → (ℕ → A) → ℕ → A → ℕ → A
+upd f i x j = sel ((j - i) + (i - j)) x (f j)
 
-up-same : (f : ℕ → ℕ) (i x : ℕ) → up f i x i ≡ x
-unfolding up sel
-up-same f i x = let z : (i - i) + (i - i) ≡ 0 = omega arith in rw z
+pub upd-same : {A : Type 0} (f : ℕ → A) (i : ℕ) (x : A) → upd f i x i ≡ x
+unfolding upd sel
+upd-same f i x = let z : (i - i) + (i - i) ≡ 0 = omega arith in rw z
 
-up-other : (f : ℕ → ℕ) (i x j : ℕ) → j < i → up f i x j ≡ f j
-unfolding up sel
-up-other f i x j h = let z : (j - i) + (i - j) ≡ suc ((i - j) - 1) = omega arith in rw z
+pub upd-other : {A : Type 0} (f : ℕ → A) (i : ℕ) (x : A) (j : ℕ) → (j ≡ i → ⊥) → upd f i x j ≡ f j
+unfolding upd sel
+upd-other f i x j ne = let z : (j - i) + (i - j) ≡ suc (((j - i) + (i - j)) - 1) = omega arith in rw z
 
 -- the table says of wire j what was settled
 pub record Agree (t : Table) (os : ℕ → List ℕ) (ct tp nn bb : ℕ → ℕ) (j : ℕ) : Type 0 where
@@ -86,16 +86,16 @@ module _ (τ : Cell) {n : Net} (sound : SoundNet n) (side₀ left₀ side left s
       (same : (j : ℕ) → j < i → offs′ j ≡ offs j) (n₀ h₀ : ℕ)
       (good : (t : Table) → t .offs i ≡ offs′ i → t .cnt i ≡ m + s → t .top i ≡ f3 s a b (min a τ.cb) → t .n i ≡ n₀ → t .b i ≡ h₀ → WireOk τ n t (side (parent n i)) i (side′ i) (left′ i) (kind n i))
       (turned : side′ i ≤ 1) (live : kind n i ≡ 0 → Alive (acc τ (hanging n (places n - suc i) i) (side′ i))) where
-    older : (t : Table) → ((j : ℕ) → j < suc i → Agree t offs′ (up (w .cnt) i (m + s)) (up (w .top) i (f3 s a b (min a τ.cb))) (up (w .nn) i n₀) (up (w .bb) i h₀) j)
+    older : (t : Table) → ((j : ℕ) → j < suc i → Agree t offs′ (upd (w .cnt) i (m + s)) (upd (w .top) i (f3 s a b (min a τ.cb))) (upd (w .nn) i n₀) (upd (w .bb) i h₀) j)
         → (j : ℕ) → j < i → Agree t offs (w .cnt) (w .top) (w .nn) (w .bb) j
     older t y j l =
         let q = y j (omega arith) in
         record {
           offs = q .offs ∙ same j l;
-          cnt = q .cnt ∙ up-other (w .cnt) i (m + s) j l;
-          top = q .top ∙ up-other (w .top) i (f3 s a b (min a τ.cb)) j l;
-          n = q .n ∙ up-other (w .nn) i n₀ j l;
-          b = q .b ∙ up-other (w .bb) i h₀ j l;
+          cnt = q .cnt ∙ upd-other (w .cnt) i (m + s) j (λ q. omega arith);
+          top = q .top ∙ upd-other (w .top) i (f3 s a b (min a τ.cb)) j (λ q. omega arith);
+          n = q .n ∙ upd-other (w .nn) i n₀ j (λ q. omega arith);
+          b = q .b ∙ upd-other (w .bb) i h₀ j (λ q. omega arith);
         }
 
     still : (u : ℕ) → u < suc i → kind n u ≡ 0 → Alive (acc τ (hanging n (places n - suc i) u) (side′ u))
@@ -109,17 +109,17 @@ module _ (τ : Cell) {n : Net} (sound : SoundNet n) (side₀ left₀ side left s
 
     pub going-on : Going τ n side₀ left₀ side′ left′ offs′ (suc i)
     going-on = record {
-      cnt = up (w .cnt) i (m + s);
-      top = up (w .top) i (f3 s a b (min a τ.cb));
-      nn = up (w .nn) i n₀;
-      bb = up (w .bb) i h₀;
+      cnt = upd (w .cnt) i (m + s);
+      top = upd (w .top) i (f3 s a b (min a τ.cb));
+      nn = upd (w .nn) i n₀;
+      bb = upd (w .bb) i h₀;
       sense = λ u l. elim (ℕ-discrete u i) [ yes e ↦ subst (λ (v : ℕ). side′ v ≤ 1) (sym e) turned | no ne ↦ rw (sides u ne) (w .sense u (omega arith)) ];
       alive = still;
       goal = λ t y d.
           let q = y i (omega arith) in
-          let ec = q .cnt ∙ up-same (w .cnt) i (m + s) in
-          let et = q .top ∙ up-same (w .top) i (f3 s a b (min a τ.cb)) in
-          let ok = good t (q .offs) ec et (q .n ∙ up-same (w .nn) i n₀) (q .b ∙ up-same (w .bb) i h₀) in
+          let ec = q .cnt ∙ upd-same (w .cnt) i (m + s) in
+          let et = q .top ∙ upd-same (w .top) i (f3 s a b (min a τ.cb)) in
+          let ok = good t (q .offs) ec et (q .n ∙ upd-same (w .nn) i n₀) (q .b ∙ upd-same (w .bb) i h₀) in
           w .goal t (older t y) (step-down τ sound t side left side′ left′ i s m a b M g h lo lifted rest few share sides own others ec et ok d under);
     }
 

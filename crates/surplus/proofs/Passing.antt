@@ -92,22 +92,6 @@ dealt-grow : (τ : Cell) (n : Net) (part : ℕ → ℕ) (p e k i : ℕ) (r : Han
 dealt-grow τ n part p e zero i r q d = rw q (d .0, d .1)
 dealt-grow τ n part p e (suc k) i r q d = rw q (d .0, d .1)
 
--- a function with one value changed
-pub sel : {A : Type 0} → ℕ → A → A → A
-sel zero x y = x
-sel (suc z) x y = y
-
-pub upd : {A : Type 0} → (ℕ → A) → ℕ → A → ℕ → A
-upd f i x j = sel ((j - i) + (i - j)) x (f j)
-
-pub upd-same : {A : Type 0} (f : ℕ → A) (i : ℕ) (x : A) → upd f i x i ≡ x
-unfolding upd sel
-upd-same f i x = let z : (i - i) + (i - i) ≡ 0 = omega arith in rw z
-
-pub upd-other : {A : Type 0} (f : ℕ → A) (i : ℕ) (x : A) (j : ℕ) → (j ≡ i → ⊥) → upd f i x j ≡ f j
-unfolding upd sel
-upd-other f i x j ne = let z : (j - i) + (i - j) ≡ suc (((j - i) + (i - j)) - 1) = omega arith in rw z
-
 module _ (τ : Cell) {n : Net} (sound : SoundNet n) {side₀ left₀ side left part : ℕ → ℕ} {offs : ℕ → List ℕ} {i : ℕ} (w : Pass τ n side₀ left₀ side left part offs i) (lo : 1 ≤ i) (h : i < places n) where
   lower : parent n i < i
   lower = sound .lower i lo h

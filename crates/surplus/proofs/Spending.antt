@@ -15,7 +15,7 @@ use Rattle.frontier.specs.Cert.{Table}
 use Rattle.surplus.specs.Dealt.{f3}
 use Rattle.surplus.specs.Walk.{Within, WireOk, Parts}
 use Rattle.surplus.proofs.Trees.{sums, acc-more}
-use Rattle.surplus.proofs.Passing.{upd, upd-same, upd-other}
+use Rattle.surplus.proofs.Going.{upd, upd-same, upd-other}
 
 -- the wires that are worth z, with a surplus of e, are owed k at most
 abbrev pub Owing : Acc → ℕ → ℕ → Type 0
