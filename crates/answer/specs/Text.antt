@@ -53,21 +53,37 @@ end = 10 ∷ []
 unfoldable pub said : List ℕ → ℕ → List ℕ
 said word n = word ++ digits n
 
+-- a line of one word and its number
+unfoldable pub countLine : List ℕ → ℕ → List ℕ
+countLine word n = said word n ++ end
+
+-- a line of two words and their numbers
+unfoldable pub pairLine : List ℕ → ℕ → List ℕ → ℕ → List ℕ
+pairLine one n other m = (said one n ++ said other m) ++ end
+
 -- `least N`: "the count"
-unfoldable pub leastLine : ℕ → List ℕ
-leastLine n = said least n ++ end
+abbrev pub leastLine : ℕ → List ℕ
+leastLine n = countLine least n
+
+-- `wire W offset O`
+abbrev pub placeLine : ℕ → ℕ → List ℕ
+placeLine w o = pairLine wire w offset o
 
 -- `wire W offset O drives L`
 unfoldable pub entryLine : ℕ → ℕ → ℕ → List ℕ
 entryLine w o l = ((said wire w ++ said offset o) ++ said drives l) ++ end
 
 -- `source drives L`
-unfoldable pub sourceLine : ℕ → List ℕ
-sourceLine l = said source l ++ end
+abbrev pub sourceLine : ℕ → List ℕ
+sourceLine l = countLine source l
 
 -- `refused N place P` (RULES 7.5)
 unfoldable pub refusedLine : Refusal → List ℕ
-refusedLine r = (said refused (numberOf r) ++ said place (placeOf r)) ++ end
+refusedLine r = pairLine refused (numberOf r) place (placeOf r)
+
+-- the same after a word that says which file is at fault
+abbrev pub refusedBy : List ℕ → Refusal → List ℕ
+refusedBy word r = word ++ refusedLine r
 
 -- a line as it is handed over: its bytes, zeros after them, and how many there are
 abbrev pub line : List ℕ → Line
@@ -89,6 +105,20 @@ entryLines (w ∷ ws) [] ls = []
 entryLines (w ∷ ws) (o ∷ os) [] = []
 entryLines (w ∷ ws) (o ∷ os) (l ∷ ls) = entryLine w o l ++ entryLines ws os ls
 
+-- and without their loads
+unfoldable pub placeLines : List ℕ → List ℕ → List ℕ
+placeLines [] os = []
+placeLines (w ∷ ws) [] = []
+placeLines (w ∷ ws) (o ∷ os) = placeLine w o ++ placeLines ws os
+
+-- what each entry drives, and the source
+unfoldable pub loadsText : List ℕ → List ℕ → List ℕ → ℕ → List ℕ
+loadsText ws os ls load = entryLines ws os ls ++ sourceLine load
+
 -- the whole answer of a net that has one
 unfoldable pub answerText : List ℕ → List ℕ → List ℕ → ℕ → List ℕ
-answerText ws os ls load = leastLine (length ws) ++ (entryLines ws os ls ++ sourceLine load)
+answerText ws os ls load = leastLine (length ws) ++ loadsText ws os ls load
+
+-- a word with the number of some entries, and the entries
+unfoldable pub countedText : List ℕ → List ℕ → List ℕ → List ℕ
+countedText word ws os = countLine word (length ws) ++ placeLines ws os

@@ -52,7 +52,7 @@ module _ {o : Outcome} {es : List Entry} (is : o ≡ placement es) where
       let b : ltb (min (length ws) (length fs)) (length es) ≡ false = le-ltb (min (length ws) (length fs)) (length es) h in
       (a .answered ∙ rw (is, b), a .wires ∙ rw (is, b), a .offsets ∙ rw (is, b))
 
-  wrote-as : {out out′ : List ℕ} {w : Wrote} → WroteAs o out out′ w → length (placementBytes es) ≤ length out
+  pub wrote-as : {out out′ : List ℕ} {w : Wrote} → WroteAs o out out′ w → length (placementBytes es) ≤ length out
       → (w ≡ Bytes (length (placementBytes es))) × (out′ ≡ sets out 0 (placementBytes es))
   wrote-as {out} a h =
       let b : ltb (length out) (length (placementBytes es)) ≡ false = le-ltb (length out) (length (placementBytes es)) h in
