@@ -5,7 +5,7 @@ use mathlib.Core.List.{List}
 use lib.ListN.{take}
 use Rattle.field.proofs.Numbers.{AreBytes}
 use Rattle.mustorgyel.specs.Printed.{Prints, unread, net}
-use Rattle.mustorgyel.proofs.FirstBytes.{mostBytes, first-bytes}
+use Rattle.net_file.proofs.FirstBytes.{mostBytes, first-bytes}
 
 pub prints-whole : {s read text : List ℕ} (n : ℕ) → AreBytes s → mostBytes < n → read ≡ take n s → Prints read text → Prints s text
 prints-whole {s} n by h e (unread r o t) = unread r (sym (first-bytes s n by h) ∙ rw e at o) t

@@ -7,3 +7,5 @@ pub mod Determined
 pub mod FileNumbers
 pub mod Numbers
 pub mod Example
+pub mod FirstBytes
+pub mod Held

@@ -4,3 +4,4 @@ pub mod RoundTrip
 pub mod SamePlacement
 pub mod FileNumbers
 pub mod Example
+pub mod Held

@@ -59,7 +59,7 @@ module _ {o : Outcome} {es : List Entry} (is : o ≡ placement es) where
       (a .answered ∙ rw (is, b), a .bytes ∙ rw (is, b))
 
 -- what was stored at the front stands there
-stored : (l xs : List ℕ) {l′ : List ℕ} {n : ℕ} → l′ ≡ sets l 0 xs → n ≡ length xs → length xs ≤ length l → take n l′ ≡ xs
+pub stored : (l xs : List ℕ) {l′ : List ℕ} {n : ℕ} → l′ ≡ sets l 0 xs → n ≡ length xs → length xs ≤ length l → take n l′ ≡ xs
 stored l xs {l′} {n} e k h = ap (take n) (e ∙ sets-eq xs l 0 (omega arith)) ∙ take-at xs _ n (sym k)
 
 pub read-then-written : (s vs os out : List ℕ) {vs′ os′ out′ : List ℕ} {r : PlacementRead} {w : Wrote} → AreBytes s

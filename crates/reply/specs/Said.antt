@@ -4,6 +4,8 @@ use mathlib.Core.Path.{_≡_}
 use mathlib.Core.List.{List, [], _∷_}
 use lib.ListN.{length, take}
 use Rattle.rules.specs.declared.Refusal.{Refusal}
+use Rattle.rules.specs.declared.Judged.{Judged}
+use Rattle.rules.specs.declared.Judged.the-variants.{Sound, Refused}
 use Rattle.rules.specs.Figures.{mostEntries}
 use Rattle.answer.specs.Text.{refusedBy}
 use Rattle.reply.specs.declared.Reply.{Reply}
@@ -20,6 +22,11 @@ answered text file = record { text = text; file = file; status = 48 }
 -- a refusal, with status "1": a word that says which file is at fault, and no file
 abbrev pub refusal : List ℕ → Refusal → Said
 refusal word r = record { text = refusedBy word r; file = []; status = 49 }
+
+-- what is said where nothing is refused, or the refusal, without a word before it
+abbrev pub orRefusal : Judged → Said → Said
+orRefusal Sound s = s
+orRefusal (Refused r) s = refusal [] r
 
 -- ---- which file is at fault (RULES 10.5)
 

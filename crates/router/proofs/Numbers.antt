@@ -25,7 +25,7 @@ use Rattle.placement_file.proofs.RoundTrip.{entries-back}
 use Rattle.placement_file.proofs.FileNumbers.{file-number as placement-number}
 use Rattle.checker.proofs.Numbers.{CheckGives, of-net, wrong-columns, of-placement, checked-numbers}
 use Rattle.router.specs.Routed.{onNet, fromNet, routed}
-use Rattle.router.proofs.Routing.{few-entries}
+use Rattle.placement_file.proofs.Held.{few-entries}
 
 -- what the number k says of two files
 pub data RouteGives (net placement : List ℕ) (k : ℕ) : Type 0 where

@@ -10,7 +10,7 @@ use borrow.Author.Needs.{needs}
 use Rattle.rules.specs.Net.{Net, net, unlimited}
 use Rattle.field.proofs.Numbers.{AreBytes}
 use Rattle.mustorgyel.specs.Printed.{unread, net as prints-net}
-use Rattle.mustorgyel.proofs.Reading.{Roomy, Holds, found, unread-says, holds}
+use Rattle.net_file.proofs.Held.{Roomy, Holds, found, unread-says, holds}
 use Rattle.mustorgyel.proofs.respond.Statement.{statement}
 use Rattle.mustorgyel.proofs.respond.Tie as tie
 

@@ -1,6 +1,6 @@
 -- `check_placement` answers `onNet`: 9 is never given, since 4,096 entries are room for every placement file.
 use native.Mathlib.Omega.{arith}
-use Rattle.router.proofs.Routing.{placement-read, placement-refused}
+use Rattle.placement_file.proofs.Held.{placement-read, placement-refused}
 use borrow.Author.Needs.{needs}
 use Rattle.router.proofs.check_placement.Statement.{statement}
 use Rattle.router.proofs.check_placement.Tie as tie
