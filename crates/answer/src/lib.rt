@@ -1,4 +1,4 @@
-// The lines that are printed (RULES 7 and 10).
+// The lines that are printed (RULES 7 and 11).
 ghost use mathlib.Core.Path.{_≡_};
 ghost use Prim.Native.Nat.{_+_, _*_, _≤_};
 ghost use lib.ListN.{length, take};

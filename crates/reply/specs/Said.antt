@@ -1,4 +1,4 @@
--- What a verb of the desk says (RULES 10.2 to 10.4): the text on standard output, the bytes that `-o` writes, and the status.
+-- What a verb of the desk says (RULES 11.2 to 11.4): the text on standard output, the bytes that `-o` writes, and the status.
 use Prim.Native.Nat.{ℕ, _+_, _*_, _≤_}
 use mathlib.Core.Path.{_≡_}
 use mathlib.Core.List.{List, [], _∷_}
@@ -28,16 +28,6 @@ abbrev pub orRefusal : Judged → Said → Said
 orRefusal Sound s = s
 orRefusal (Refused r) s = refusal [] r
 
--- ---- which file is at fault (RULES 10.5)
-
--- "net "
-abbrev pub net : List ℕ
-net = 110 ∷ 101 ∷ 116 ∷ 32 ∷ []
-
--- "placement "
-abbrev pub placement : List ℕ
-placement = 112 ∷ 108 ∷ 97 ∷ 99 ∷ 101 ∷ 109 ∷ 101 ∷ 110 ∷ 116 ∷ 32 ∷ []
-
 -- ---- as it is handed over
 
 -- the first r places of a buffer hold a text
@@ -51,6 +41,12 @@ pub record Replies (said : Said) (texts files : List ℕ) (r : Reply) : Type 0 w
   pub text : Shows (said .text) texts (r .text)
   pub file : Shows (said .file) files (r .file)
   pub status : r .status ≡ said .status
+
+-- a reply that says something right
+pub record Conveys (Right : Said → Type 0) (texts files : List ℕ) (r : Reply) : Type 0 where
+  pub said : Said
+  pub right : Right said
+  pub replies : Replies said texts files r
 
 -- room for every text: 64 bytes a line
 abbrev pub mostText : ℕ

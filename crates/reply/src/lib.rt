@@ -1,4 +1,4 @@
-// What a verb of the desk answers: a text, the bytes of a placement file where there is one, and a status (RULES 10).
+// What a verb of the desk answers: a text, the bytes of a placement file where there is one, and a status (RULES 11).
 use field::Wrote;
 use rules::Refusal;
 ghost use Prim.Native.Nat.{_+_, _≤_};
