@@ -22,6 +22,10 @@ digits n = higher n (n / 10) ++ ((48 + n % 10) ∷ [])
 abbrev pub least : List ℕ
 least = 108 ∷ 101 ∷ 97 ∷ 115 ∷ 116 ∷ 32 ∷ []
 
+-- "legal "
+abbrev pub legal : List ℕ
+legal = 108 ∷ 101 ∷ 103 ∷ 97 ∷ 108 ∷ 32 ∷ []
+
 -- "wire "
 abbrev pub wire : List ℕ
 wire = 119 ∷ 105 ∷ 114 ∷ 101 ∷ 32 ∷ []

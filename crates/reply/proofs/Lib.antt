@@ -1,2 +1,4 @@
 pub mod Showing
 pub mod Writing
+pub mod Judged
+pub mod Determined
