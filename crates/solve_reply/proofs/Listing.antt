@@ -1,20 +1,18 @@
 -- A legal placement of a sound net is listed: none of the refusals before the loads is given, and there are as many loads as entries.
-use Prim.Native.Nat.{ℕ, zero, suc, _+_, _-_, _≤_}
+use Prim.Native.Nat.{ℕ, zero, suc, _-_, _≤_}
 use native.Mathlib.Omega.{arith}
-use mathlib.Core.Path.{_≡_, refl, sym, ap, _∙_}
-use mathlib.Core.Bool.{true}
-use mathlib.Core.List.{List, [], _∷_, _++_}
+use mathlib.Core.Path.{_≡_, refl, ap, _∙_}
+use mathlib.Core.List.{List, [], _∷_}
 use lib.ListN.{length, length-append}
 use lib.Seq.{sets}
 use borrow.Author.Tests.{eq-eqb, le-leb}
 use Rattle.rules.specs.declared.Refusal.{Refusal}
-use Rattle.rules.specs.declared.Judged.{Judged}
 use Rattle.rules.specs.declared.Judged.the-variants.{Sound}
 use Rattle.rules.specs.Figures.{mostEntries}
 use Rattle.rules.specs.Net.{Net, places}
 use Rattle.rules.specs.Load.{entries, offsetsOn, drives, drivenOn, joined, driven}
 use Rattle.rules.specs.Legal.{start}
-use Rattle.rules.specs.Judge.{thenJudge, judged}
+use Rattle.rules.specs.Judge.{thenJudge}
 use Rattle.rules.specs.Checked.{placedFrom, withinLimit, oneSense, placementJudged}
 use Rattle.rules.specs.Sum.{sumFrom}
 use Rattle.rules.specs.Load.{drivers, sourceDrives}
@@ -25,7 +23,7 @@ use Rattle.listing.specs.declared.Listed.the-variants.{Driven, Refused}
 use Rattle.listing.specs.Listing.{listJudged, ListedIs}
 use Rattle.rules.proofs.LegalJudged.{legal-judged}
 use Rattle.standing.proofs.Walk.{entries-length}
-use Rattle.mustorgyel.specs.Printed.{Given}
+use Rattle.solve_reply.specs.Solves.{Given}
 
 placed : {n : Net} {ws os : List ℕ} → Given n ws os → placedFrom n start 0 (entries ws os) ≡ Sound
 unfolding placementJudged

@@ -9,13 +9,14 @@ use denote.Ref.{now}
 use borrow.Author.Needs.{needs}
 use Rattle.rules.specs.Net.{Net, netAt}
 use Rattle.rules.specs.Load.{entries, offsetsOn, driven, sourceDrives}
+use Rattle.placement_file.proofs.SamePlacement.{stored}
 use Rattle.listing.specs.declared.Listed.the-variants.{Driven}
 use Rattle.answer.specs.Text.{answerText}
 use Rattle.answer.proofs.Laying.{laid-as}
-use Rattle.mustorgyel.proofs.Showing.{shown, front-of}
-use Rattle.mustorgyel.proofs.Listing.{drives-listed, as-many-loads, listed-count, listed-source, listed-refused}
-use Rattle.mustorgyel.proofs.tell.Statement.{statement}
-use Rattle.mustorgyel.proofs.tell.Tie as tie
+use Rattle.reply.proofs.Showing.{shown}
+use Rattle.solve_reply.proofs.Listing.{drives-listed, as-many-loads, listed-count, listed-source, listed-refused}
+use Rattle.solve_reply.proofs.tell.Statement.{statement}
+use Rattle.solve_reply.proofs.tell.Tie as tie
 
 abbrev N : tie.Start → Net
 N s = netAt (s .args .limits) (s .args .parent) (s .args .wire) (s .args .kind) (s .args .pin) (s .args .polarity)
@@ -59,7 +60,7 @@ taken : (c : tie.After-listed) → take (c .listed .given .0 .0) (c .before .bef
 taken c =
     let g = first c .pre .0 in
     let m = as-many-loads g in
-    front-of (replicate 4096 0) (loads (first c)) (heard (c .before .before .before) .1) (counted c ∙ sym m) (omega (arith, length-replicate {A = ℕ} 4096 0, g .few))
+    stored (replicate 4096 0) (loads (first c)) (heard (c .before .before .before) .1) (counted c ∙ sym m) (omega (arith, length-replicate {A = ℕ} 4096 0, g .few))
 
 array-share-prefix-loads : tie.Need-array-share-prefix-loads
 array-share-prefix-loads c = let k = c .before .before in omega (arith, counted k, room k, first k .pre .0 .few)

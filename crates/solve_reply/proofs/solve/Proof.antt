@@ -1,27 +1,28 @@
--- `respond` prints the file's refusal, or what is printed of the net that the reader left in the columns.
+-- `solve` says the file's refusal, or what is said of the net that the reader left in the columns.
 use Prim.Native.Nat.{ℕ, _≤_}
 use native.Mathlib.Omega.{arith}
-use mathlib.Core.Path.{_≡_, sym}
-use mathlib.Core.List.{List}
+use mathlib.Core.Path.{_≡_, refl, sym}
+use mathlib.Core.List.{List, []}
 use lib.ListN.{length, take, replicate, length-replicate}
 use lib.Seq.{length-take-le}
 use denote.Ref.{now}
 use borrow.Author.Needs.{needs}
 use Rattle.rules.specs.Net.{Net, net, unlimited}
 use Rattle.field.proofs.Numbers.{AreBytes}
-use Rattle.mustorgyel.specs.Printed.{unread, net as prints-net}
 use Rattle.net_file.proofs.Held.{Roomy, Holds, found, unread-says, holds}
-use Rattle.mustorgyel.proofs.respond.Statement.{statement}
-use Rattle.mustorgyel.proofs.respond.Tie as tie
+use Rattle.reply.specs.Said.{refusal}
+use Rattle.solve_reply.specs.Solves.{unread, net as of-net}
+use Rattle.solve_reply.proofs.solve.Statement.{statement}
+use Rattle.solve_reply.proofs.solve.Tie as tie
 
 abbrev start : tie.After-read-net → tie.Start
-start c = c .before .before .before .before .before .before .before .before
+start c = c .before .before .before .before .before .before .before .before .before
 
 abbrev left : tie.After-read-net → Net
 left c = net unlimited (c .read-net .last .1 .0) (c .read-net .last .1 .1 .0) (c .read-net .last .1 .1 .1 .0) (c .read-net .last .1 .1 .1 .1 .0) (c .read-net .last .1 .1 .1 .1 .1 .0)
 
 bytes : (c : tie.After-read-net) → AreBytes (now (start c .args .s))
-bytes c k = omega (arith, c .before .before .before .before .before .before .before .shared-slice-known .given k)
+bytes c k = omega (arith, c .before .before .before .before .before .before .before .before .shared-slice-known .given k)
 
 roomy : Roomy (net unlimited (replicate 1025 0) (replicate 1025 0) (replicate 1025 0) (replicate 1025 0) (replicate 1025 0))
 roomy = let e = length-replicate {A = ℕ} 1025 0 in record { parents = e; wires = e; kinds = e; pins = e; polarities = e }
@@ -38,23 +39,24 @@ held c = holds (c .found .given .0 .0) (c .found .given .0 .1 .0) (bytes (at c))
 part : (c : tie.After-found) (l : List ℕ) → length l ≡ 1025 → (c .found .given .0 .1 .0 ≤ length l) × (c .found .given .0 .1 .0 ≡ length (take (c .found .given .0 .1 .0) l))
 part c l e = let few = held c .few in (omega arith, sym (length-take-le (c .found .given .0 .1 .0) l (omega arith)))
 
-solve-requires : tie.Need-solve-requires
-solve-requires c κs = (held (c .before .before .before .before .before .before .before) .sound, search needs)
+solve-net-requires : tie.Need-solve-net-requires
+solve-net-requires c κs = (held (c .before .before .before .before .before .before .before .before) .sound, c .before .before .before .before .before .before .before .before .before .before .before .before .before .before .before .before .before .before .before .before .before .before .before .before .pre)
 
 returns : tie.Need-returns
 returns c =
-    let s = c .before .before .solve .ensures in
-    (prints-net _ (held (c .before .before .before .before .before .before .before .before .before .before) .is) (s .0), s .1)
+    let s = c .before .before .before .before .solve-net .ensures in
+    record { said = s .said; is = of-net _ (held (c .before .before .before .before .before .before .before .before .before .before .before .before .before) .is) (s .is); replies = s .replies }
+
+-- ---- where none was
 
 returns-2 : tie.Need-returns-2
 returns-2 c =
-    let t = c .before .before .refuse .ensures in
-    let r = c .before .before .before .before .before .found2 .given in
-    let a = c .before .before .before .before .before .before .before .before .before .before .before .before in
-    (unread (r .0 .0) (unread-says (r .0 .0) (found (bytes a) roomy (a .read-net .ensures)) (r .1)) (t .is), (t .within, t .counted))
+    let r = c .before .before .before .before .before .before .found2 .given in
+    let a = c .before .before .before .before .before .before .before .before .before .before .before .before .before in
+    record { said = refusal [] (r .0 .0); is = unread (r .0 .0) (unread-says (r .0 .0) (found (bytes a) roomy (a .read-net .ensures)) (r .1)) refl; replies = c .before .before .refuse .ensures _ }
 
-pub respond-spec : {M : Type 1} → statement M
-respond-spec =
+pub solve-spec : {M : Type 1} → statement M
+solve-spec =
     tie.close
     (tie.spec
     (λ c. search needs)
@@ -74,9 +76,11 @@ respond-spec =
     (λ c. let k = c .before .before .before .before .before in part k (left (at k) .pins) (held k .long .pins) .1)
     (λ c. let k = c .before .before .before .before .before in part k (left (at k) .polarities) (held k .long .polarities) .0)
     (λ c. let k = c .before .before .before .before .before .before in part k (left (at k) .polarities) (held k .long .polarities) .1)
-    solve-requires
+    solve-net-requires
+    (λ c. search needs)
     (λ c. search needs)
     (λ c κs. search needs)
+    (λ c. search needs)
     (λ c. search needs)
     returns
     (λ c. search needs)
