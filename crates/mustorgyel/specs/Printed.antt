@@ -5,8 +5,6 @@ use mathlib.Core.List.{List}
 use lib.ListN.{length, getD, take}
 use Rattle.reply.specs.Said.{Said}
 use Rattle.solve_reply.specs.Solves.{Solves}
-use Rattle.mustorgyel.specs.declared.Input.{Input}
-use Rattle.mustorgyel.specs.declared.Input.the-variants.{Bytes, Failed}
 
 -- of any bytes: the text of what `solve` says, which is the file's refusal, 8 or 9, or a legal placement with the least count
 pub record Prints (s text : List ℕ) : Type 0 where
@@ -22,10 +20,3 @@ mostRead = 16384
 -- however many, the text is what is printed for all of those.
 abbrev pub Answers : List ℕ → ℕ → List ℕ → Type 0
 Answers buffer count text = (s : List ℕ) → ((k : ℕ) → getD s k 0 < 256) → take count buffer ≡ take (length buffer) s → Prints s text
-
--- ---- between the program's functions
-
--- the bytes that were read
-abbrev pub countOf : Input → ℕ
-countOf (Bytes count) = count
-countOf Failed = 0

@@ -1,4 +1,5 @@
 // The program: a net file on standard input, its answer on standard output (RULES 7).
+use input::Input;
 use libc::STDERR_FILENO;
 use libc::STDIN_FILENO;
 use libc::STDOUT_FILENO;
@@ -6,7 +7,7 @@ ghost use mathlib.Core.Path.{_≡_};
 ghost use Prim.Native.Nat.{_≤_};
 ghost use lib.ListN.{length, take};
 ghost use Rattle.reply.specs.Said.{mostText};
-ghost use Rattle.mustorgyel.specs.Printed.{mostRead, Answers, countOf};
+ghost use Rattle.mustorgyel.specs.Printed.{mostRead, Answers};
 
 // The bytes that are taken in (RULES 7.2). They decide the answer, whatever comes after them.
 const INPUT: usize = 16384;
@@ -30,47 +31,11 @@ fn answer_input(buffer: &[u8], count: usize, out: &mut [u8]) -> usize
     reply.text
 }
 
-enum Input {
-    Bytes(usize),
-    Failed,
-}
-
-// One read; no bytes are the end of the input. Every failure counts as one, also what another try might mend: the library does not say
-// which it was, and a piece of the input is not the input.
-fn read_part(part: &mut [u8]) -> Input
-    ensures { λ r. ⌜ countOf r ≤ length (now (part .exit)) ⌝ }
-{
-    let got = libc::read(STDIN_FILENO, part);
-    if got < 0 {
-        return Input::Failed;
-    }
-    Input::Bytes(io::count(got, part))
-}
-
-// Reads until the buffer is full, the input ends or a read fails. `io::read_full` does not tell the last two apart, and one more read
-// after it cannot always: a broken connection fails once, and after that it reads as one that ended.
-fn read_input(buffer: &mut [u8]) -> Input
-    ensures { λ r. ⌜ countOf r ≤ length (now (buffer .exit)) ⌝ }
-{
-    let mut count = 0;
-    while count < buffer.len() {
-        let part = read_part(&mut buffer[count..]);
-        let Input::Bytes(more) = part else {
-            return Input::Failed;
-        };
-        if more == 0 {
-            return Input::Bytes(count);
-        }
-        count += more;
-    }
-    Input::Bytes(count)
-}
-
 // The language has no exit status. Without an answer nothing, or not all of it, stands on standard output, and a line on standard error;
 // the launcher makes a status of that (RULES 7.8).
 fn main() {
     let mut input = [0u8; INPUT];
-    let read = read_input(&mut input);
+    let read = input::read(STDIN_FILENO, &mut input);
     let Input::Bytes(count) = read else {
         io::write_all(
             STDERR_FILENO,

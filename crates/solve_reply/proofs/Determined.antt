@@ -14,8 +14,8 @@ use Rattle.placement_file.proofs.Listing.{length-entries}
 use Rattle.placement_writer.proofs.Writing.{length-bytes}
 use Rattle.answer.specs.Text.{leastLine, answerText}
 use Rattle.reply.specs.declared.Reply.{Reply}
-use Rattle.reply.specs.Said.{Said}
-use Rattle.solve_reply.specs.Solves.{SolvesNet, none, full, placed, Solves, unread, net, SolveReplies}
+use Rattle.reply.specs.Said.{Conveys, Said}
+use Rattle.solve_reply.specs.Solves.{SolvesNet, none, full, placed, Solves, unread, net}
 
 pub data SameLeast (t t′ : List ℕ) : Type 0 where
   same : t ≡ t′ → SameLeast t t′
@@ -60,10 +60,10 @@ agree (net n g p) (unread r e f) = absurd (let z : _≡_ {A = ℕ} 0 1 = cc in o
 agree {s} (net n e p) (net m f q) = agree-read s n m e f p q
 
 -- and as they are handed over
-pub replies-agree : {s ts fs ts′ fs′ : List ℕ} {r r′ : Reply} → SolveReplies s ts fs r → SolveReplies s ts′ fs′ r′
+pub replies-agree : {s ts fs ts′ fs′ : List ℕ} {r r′ : Reply} → Conveys (Solves s) ts fs r → Conveys (Solves s) ts′ fs′ r′
     → (r .status ≡ r′ .status) × (r .file ≡ r′ .file) × SameLeast (take (r .text) ts) (take (r′ .text) ts′)
 replies-agree {s} {ts} {fs} {ts′} {fs′} {r} {r′} a b =
-    let g = agree (a .is) (b .is) in
+    let g = agree (a .right) (b .right) in
     let p = a .replies in
     let q = b .replies in (
       p .status ∙ g .status ∙ sym (q .status),

@@ -21,9 +21,9 @@ use Rattle.solution.specs.declared.Solved.{Solved}
 use Rattle.solution.specs.declared.Solved.the-variants.{Placed, Refused}
 use Rattle.solution.specs.Answer.{Outcome, none, full, placed, Answered}
 use Rattle.reply.specs.declared.Reply.{Reply}
-use Rattle.reply.specs.Said.{refusal, answered, Shows, Replies}
+use Rattle.reply.specs.Said.{Conveys, refusal, answered, Shows, Replies}
 use Rattle.reply.proofs.Writing.{stands-placed, columns-fit}
-use Rattle.solve_reply.specs.Solves.{told, SolvesNet, NetReplies, Given}
+use Rattle.solve_reply.specs.Solves.{told, SolvesNet, Given}
 use Rattle.solve_reply.specs.Solves as says
 
 pub outcome : {n : Net} {ws os ws′ os′ : List ℕ} {r : Solved} → judged n ≡ Sound → Answered (judged n) n ws os ws′ os′ r → Outcome n ws os ws′ os′ r
@@ -70,12 +70,12 @@ places {n} {ws} {os} {ws′} {os′} k sound (placed p legal least fits e holds)
     }
 
 pub replies-placed : {n : Net} {k : ℕ} {ws os texts files : List ℕ} {t f : ℕ} → Places n k ws os → Shows (told n (take k ws) (take k os)) texts t → Shows (placementBytes (entries (take k ws) (take k os))) files f
-    → NetReplies n texts files (record { text = t; file = f; status = 48 })
+    → Conveys (SolvesNet n) texts files (record { text = t; file = f; status = 48 })
 replies-placed {n} {k} {ws} {os} p text file =
     let g = p .given in
     record {
       said = answered (told n (take k ws) (take k os)) (placementBytes (entries (take k ws) (take k os)));
-      is = says.placed (take k ws) (take k os) (g .even) (g .few) (g .legal) (rw (p .wires-taken) (p .least)) refl;
+      right = says.placed (take k ws) (take k os) (g .even) (g .few) (g .legal) (rw (p .wires-taken) (p .least)) refl;
       replies = record { text = text; file = file; status = refl };
     }
 
@@ -85,5 +85,5 @@ solves-refusal why a b (full k l more e kept) f = says.full k l (omega arith) (a
 solves-refusal why a b (placed p legal least fits e holds) f = absurd (let z : _≡_ {A = ℕ} 0 1 = cc in omega arith)
 
 pub replies-refusal : {n : Net} {ws os ws′ os′ texts files : List ℕ} {s : Solved} {r : Reply} (why : Refusal) → mostEntries ≤ length ws → mostEntries ≤ length os → Outcome n ws os ws′ os′ s → s ≡ Refused why
-    → Replies (refusal [] why) texts files r → NetReplies n texts files r
-replies-refusal why a b o e r = record { said = refusal [] why; is = solves-refusal why a b o e; replies = r }
+    → Replies (refusal [] why) texts files r → Conveys (SolvesNet n) texts files r
+replies-refusal why a b o e r = record { said = refusal [] why; right = solves-refusal why a b o e; replies = r }

@@ -14,8 +14,7 @@ use Rattle.rules.specs.Judge.{judged}
 use Rattle.net_file.specs.NetFile.{netOf, read, refused}
 use Rattle.placement_file.specs.File.{placementBytes}
 use Rattle.answer.specs.Text.{answerText}
-use Rattle.reply.specs.declared.Reply.{Reply}
-use Rattle.reply.specs.Said.{Said, answered, refusal, Replies}
+use Rattle.reply.specs.Said.{Said, answered, refusal}
 
 -- the answer for the placement that two columns hold (RULES 7.3, 7.4)
 abbrev pub told : Net → List ℕ → List ℕ → List ℕ
@@ -32,19 +31,7 @@ pub data Solves (bytes : List ℕ) (s : Said) : Type 0 where
   unread : (r : Refusal) → netOf bytes ≡ refused r → s ≡ refusal [] r → Solves bytes s
   net : (n : Net) → netOf bytes ≡ read n → SolvesNet n s → Solves bytes s
 
--- and as it is handed over
-pub record SolveReplies (bytes texts files : List ℕ) (r : Reply) : Type 0 where
-  pub said : Said
-  pub is : Solves bytes said
-  pub replies : Replies said texts files r
-
 -- ---- between the functions
-
--- the same of a net
-pub record NetReplies (n : Net) (texts files : List ℕ) (r : Reply) : Type 0 where
-  pub said : Said
-  pub is : SolvesNet n said
-  pub replies : Replies said texts files r
 
 -- a legal placement of a sound net, in columns that a placement may have
 pub record Given (n : Net) (ws os : List ℕ) : Type 0 where

@@ -10,8 +10,8 @@ ghost use lib.ListN.{length};
 ghost use Rattle.rules.specs.declared.Judged.the-variants.{Sound};
 ghost use Rattle.rules.specs.Net.{netAt};
 ghost use Rattle.rules.specs.Judge.{judged};
-ghost use Rattle.reply.specs.Said.{Shows, mostText, mostFile};
-ghost use Rattle.solve_reply.specs.Solves.{told, Given, NetReplies, SolveReplies};
+ghost use Rattle.reply.specs.Said.{Conveys, Shows, mostText, mostFile};
+ghost use Rattle.solve_reply.specs.Solves.{told, Given, SolvesNet, Solves};
 
 // The places of a net's columns, and the entries of a placement's.
 const PLACES: usize = 1025;
@@ -66,7 +66,7 @@ fn solve_net(
 ) -> Reply
     requires { ⌜ judged (netAt limits parent wire kind pin polarity) ≡ Sound ⌝ }
     requires { ⌜ (mostText ≤ length (now out)) × (mostFile ≤ length (now file)) ⌝ }
-    ensures { λ r. ⌜ NetReplies (netAt limits (parent .entry) (wire .entry) (kind .entry) (pin .entry) (polarity .entry)) (now (out .exit)) (now (file .exit)) r ⌝ }
+    ensures { λ r. ⌜ Conveys (SolvesNet (netAt limits (parent .entry) (wire .entry) (kind .entry) (pin .entry) (polarity .entry))) (now (out .exit)) (now (file .exit)) r ⌝ }
 {
     let mut wires = [0u16; ENTRIES];
     let mut offsets = [0u32; ENTRIES];
@@ -107,7 +107,7 @@ fn solve_net(
 // What is said of the bytes of a net file.
 pub fn solve(s: &[u8], out: &mut [u8], file: &mut [u8]) -> Reply
     requires { ⌜ (mostText ≤ length (now out)) × (mostFile ≤ length (now file)) ⌝ }
-    ensures { λ r. ⌜ SolveReplies (now (s .entry)) (now (out .exit)) (now (file .exit)) r ⌝ }
+    ensures { λ r. ⌜ Conveys (Solves (now (s .entry))) (now (out .exit)) (now (file .exit)) r ⌝ }
 {
     let mut parent = [0u16; PLACES];
     let mut wire = [0u32; PLACES];

@@ -17,7 +17,7 @@ returns c =
     let start = c .before .before .before .before .before .before .before .before .before in
     let r = c .before .before .before .solve .ensures in
     let t = r .replies .text in
-    ((λ s by e. record { said = r .said; solves = solves-whole (length (now (start .args .buffer))) by (omega (arith, start .pre .1 .0)) e (r .is); is = t .is }), (t .within, t .counted))
+    ((λ s by e. record { said = r .said; solves = solves-whole (length (now (start .args .buffer))) by (omega (arith, start .pre .1 .0)) e (r .right); is = t .is }), (t .within, t .counted))
 
 pub answer-input-spec : {M : Type 1} → statement M
 answer-input-spec = tie.close (tie.spec slice-aggregate-solve (λ c. search needs) (λ c κs. search needs) (λ c. search needs) returns)

@@ -2,13 +2,13 @@
 use native.Mathlib.Omega.{arith}
 use mathlib.Core.Path.{ap}
 use borrow.Author.Needs.{needs}
-use Rattle.mustorgyel.specs.Printed.{countOf}
+use Rattle.input.specs.Input.{countOf}
 use Rattle.mustorgyel.proofs.main.Statement.{statement}
 use Rattle.mustorgyel.proofs.main.Tie as tie
 
 answer-input-requires : tie.Need-answer-input-requires
 answer-input-requires c κs =
-    let count = ap countOf (c .before .before .before .read .given .1) in
+    let count = ap countOf (c .before .before .before .read2 .given .1) in
     (omega (arith, count), (search needs, search needs))
 
 pub main-spec : {M : Type 1} → statement M

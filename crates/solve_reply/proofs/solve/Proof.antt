@@ -45,7 +45,7 @@ solve-net-requires c κs = (held (c .before .before .before .before .before .bef
 returns : tie.Need-returns
 returns c =
     let s = c .before .before .before .before .solve-net .ensures in
-    record { said = s .said; is = of-net _ (held (c .before .before .before .before .before .before .before .before .before .before .before .before .before) .is) (s .is); replies = s .replies }
+    record { said = s .said; right = of-net _ (held (c .before .before .before .before .before .before .before .before .before .before .before .before .before) .is) (s .right); replies = s .replies }
 
 -- ---- where none was
 
@@ -53,7 +53,7 @@ returns-2 : tie.Need-returns-2
 returns-2 c =
     let r = c .before .before .before .before .before .before .found2 .given in
     let a = c .before .before .before .before .before .before .before .before .before .before .before .before .before in
-    record { said = refusal [] (r .0 .0); is = unread (r .0 .0) (unread-says (r .0 .0) (found (bytes a) roomy (a .read-net .ensures)) (r .1)) refl; replies = c .before .before .refuse .ensures _ }
+    record { said = refusal [] (r .0 .0); right = unread (r .0 .0) (unread-says (r .0 .0) (found (bytes a) roomy (a .read-net .ensures)) (r .1)) refl; replies = c .before .before .refuse .ensures _ }
 
 pub solve-spec : {M : Type 1} → statement M
 solve-spec =
