@@ -1,0 +1,4 @@
+pub mod Whole
+pub mod Telling
+pub mod Determined
+pub mod ReadBack
