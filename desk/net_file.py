@@ -1,7 +1,7 @@
-"""Net and placement files in Python: what their bytes say, and the readable twin (hex with a comment for each field).
+"""Net and placement files in Python: what their bytes say, and the bytes of a field or of a net.
 
-A reader for pictures and examples: it stops at the first thing that does not belong, and says where.
-Which refusal that is (docs/RULES.md, section 4), ./mustorgyel says of a net file."""
+A reader for pictures: it stops at the first thing that does not belong, and says where. Which refusal that is
+(docs/RULES.md, section 4), ./mustorgyel says. `reading` is the one that also takes damaged files."""
 
 LIMITS, BRANCH, SINK, COUNT, ENTRY, END = 0x01, 0x02, 0x03, 0x11, 0x12, 0x7F
 # RULES 3.4: the bytes of each number of a field's value
@@ -86,34 +86,12 @@ def field(tag, *values):
     return bytes([tag]) + len(body).to_bytes(2, "big") + body
 
 
-def of_twin(text):
-    """The bytes of a readable twin: hex, and comments from # to the end of the line."""
-    return bytes.fromhex(" ".join(line.split("#")[0] for line in text.splitlines()))
-
-
-def rows(title, lines):
-    """Lines of a title, then the bytes of each field with what they say."""
-    said = [f"{data.hex(' ').upper():<42}# {what}" for data, what in lines]
-    return "\n".join([f"# {line}" for line in title] + said) + "\n"
-
-
-def twin(net, title):
-    """The readable twin of a net."""
-    kind = ("buffer", "inverter")[net.repeater]
-    lines = [(field(LIMITS, net.limit, net.pin, net.repeater), f"limits: C_U {net.limit}, C_b {net.pin}, {kind}")]
-    for number, node in enumerate(net.nodes[1:], 1):
-        what = f"node {number} under {node.parent}: wire {node.wire}"
+def net_bytes(net):
+    """The net file of a net."""
+    said = [field(LIMITS, net.limit, net.pin, net.repeater)]
+    for node in net.nodes[1:]:
         if node.is_sink:
-            sign = "minus" if node.polarity else "plus"
-            sign = f", {sign}" if net.repeater else ""
-            lines.append((field(SINK, node.parent, node.wire, node.pin, node.polarity), f"{what}, sink, pin {node.pin}{sign}"))
+            said.append(field(SINK, node.parent, node.wire, node.pin, node.polarity))
         else:
-            lines.append((field(BRANCH, node.parent, node.wire), f"{what}, branch point"))
-    return rows(title, lines + [(field(END), "end")])
-
-
-def placement_twin(entries, title):
-    """The readable twin of a placement."""
-    lines = [(field(COUNT, len(entries)), f"count: {len(entries)}")]
-    lines += [(field(ENTRY, wire, offset), f"entry {k}: wire {wire}, offset {offset}") for k, (wire, offset) in enumerate(entries)]
-    return rows(title, lines + [(field(END), "end")])
+            said.append(field(BRANCH, node.parent, node.wire))
+    return b"".join(said) + field(END)
