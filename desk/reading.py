@@ -147,8 +147,8 @@ class Reading:
         if left == 0:
             return Fault(1, at, f"the file is over; {self.said_due()}", ("5.2",), ("rest",))
         tag = self.data[at]
-        needs = f"{KIND[tag]} takes {size(tag)}" if tag in self.due() else "tag and length of a field take 3"
-        return Fault(1, at, f"cut, for {needs} bytes and {left} {'is' if left == 1 else 'are'} left", ("3.2", "3.4"), ("rest",))
+        whole = f"{size(tag)} bytes of {KIND[tag]}" if tag in self.due() else "3 bytes of a field's tag and length"
+        return Fault(1, at, f"cut after {left} of the {whole}", ("3.2", "3.4"), ("rest",))
 
     def field(self, at, fault):
         """The field at a byte. A damaged one has the bytes up to where the next plainly begins, or all that are left."""

@@ -68,7 +68,7 @@ def gaps():
 
 def texts():
     """Every file that may cite a paragraph."""
-    folders = [ROOT / name for name in ("bench", "crates", "docs", "examples", "include", "tests")]
+    folders = [ROOT / name for name in ("bench", "crates", "desk", "docs", "examples", "include", "tests")]
     files = [file for folder in folders for file in sorted(folder.rglob("*")) if file.is_file()]
     for file in [ROOT / "README.md", ROOT / "mustorgyel", *files]:
         try:
