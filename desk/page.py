@@ -1,4 +1,5 @@
 """The page of the verb `explain`: a refusal, what is wrong in words, the bytes that it points at, the rules as docs/RULES.md has them."""
+import functools
 import pathlib
 import re
 import textwrap
@@ -19,12 +20,17 @@ def plain(text):
     return re.sub(r"[*`]", "", text).replace("\u00b7", "*").encode("ascii", "replace").decode()
 
 
+@functools.cache
+def rules_page():
+    try:
+        return RULES.read_text(encoding="utf-8")
+    except (OSError, ValueError):
+        return ""
+
+
 def rules(number, paragraphs):
     """Pairs of a paragraph and its words: the refusal's row of 4.3, then these; without the words where the page is not there."""
-    try:
-        page = RULES.read_text(encoding="utf-8")
-    except (OSError, ValueError):
-        page = ""
+    page = rules_page()
     row = re.search(rf"^\| {number} \| `\w+` \| (.*) \| (.*) \|$", page, re.M)
     yield "4.3", plain(f"{number}: {row[1]}. Its place: {row[2]}.") if row else ""
     for name in paragraphs:

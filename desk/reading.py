@@ -31,7 +31,8 @@ RANGES = {LIMITS: (("C_U", lambda v: 1 <= v["C_U"] <= 1_000_000, "C_U {C_U} is n
           SINK: (WIRE,
                  ("pin", lambda v: v["pin"] <= 1_000_000, "pin {pin} is over 1,000,000", "1.7"),
                  ("polarity", lambda v: v["polarity"] <= 1, "polarity {polarity} is neither 0 (plus) nor 1 (minus)", "1.7"),
-                 ("polarity", lambda v: v["polarity"] != 1 or v["of"] != 0, "polarity 1 (minus) in a net of buffers, which has 0 alone", "1.10")),
+                 ("polarity", lambda v: v["polarity"] != 1 or v["of"] != 0, "polarity 1 (minus) in a net of buffers, which has 0 alone",
+                  "1.10")),
           COUNT: (("count", lambda v: v["count"] <= 4096, "count {count} is over 4,096", "3.9"),),
           ENTRY: (("wire", lambda v: 1 <= v["wire"] <= 1024, "wire number {wire} is not from 1 to 1,024", "3.9"),
                   ("offset", lambda v: v["offset"] <= 10_000_000, "offset {offset} is over 10,000,000", "3.9")),
@@ -159,7 +160,7 @@ class Reading:
         if begins(self.data, at, BODY):
             return Field(at, self.data[at:at + size(tag)], tag)
         follow = (ENTRY, END) if self.placement else (BRANCH, SINK, END)
-        tries = [*map(size, [tag] if tag in BODY else []), *map(size, self.due()), 3 + length]
+        tries = [*map(size, [tag] if tag in BODY else []), 3 + length, *map(size, self.due())]
         after = next((at + some for some in tries if begins(self.data, at + some, follow)), len(self.data))
         return Field(at, self.data[at:after], None)
 

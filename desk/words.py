@@ -231,8 +231,8 @@ def wrong_parity(record, refusal):
         return None
     said = [f"({SIGN[field.values['polarity']]}, byte {field.at} of the net, {many(count, 'inverters')} above it)"
             for count, field in zip(above, pair)]
-    return Finding(f"sink {pair[0].number} {said[0]} disagrees with sink {pair[1].number}, the lowest {said[1]}: sums {sums[0]} and {sums[1]}",
-                   ("2.13",), (*(Point("net", field, ("polarity",)) for field in pair), *between(net, placement, pair)))
+    words = f"sink {pair[0].number} {said[0]} disagrees with sink {pair[1].number}, the lowest {said[1]}: sums {sums[0]} and {sums[1]}"
+    return Finding(words, ("2.13",), (*(Point("net", field, ("polarity",)) for field in pair), *between(net, placement, pair)))
 
 
 def between(net, placement, pair):

@@ -294,7 +294,8 @@ def words_8(words, case):
         hold(node == 0 or at == node_byte(case.files[0], node), words)
         part, new = subtree(net, node)
         if given is not None:
-            given = Placement(*map(list, zip(*[(new[w], o) for w, o in zip(*given) if new.get(w)]))) if any(map(new.get, given.wire)) else Placement([], [])
+            kept = [(new[wire], offset) for wire, offset in zip(*given) if new.get(wire)]
+            given = Placement([wire for wire, _ in kept], [offset for _, offset in kept])
         hold(possible(part, load, given) and not possible(part, load - 1, given), words)
     hold(limit == net.limits.limit and excess == load - limit > 0, words)
     seen[8, "pin" if sink else "node" if node else "source", net.limits.type] += 1
@@ -323,11 +324,14 @@ def words_10(words, case, place):
 
 def words_11(words, case, place):
     net, placement = ref.read_net(case.files[0]), ref.read_placement(case.files[-1])
+    limit = net.limits.limit
+    front = entry_words(case.files[-1], place) if place < len(placement.wire) else "the source"
+    if not case.loads:
+        return hold(words == f"{front} drives more than C_U {limit}", words)
     drives, source = ref.loads(net, placement)
-    load, limit = [*drives, source][place], net.limits.limit
-    front = entry_words(case.files[-1], place) if place < len(drives) else "the source"
-    hold(words == f"{front} drives {load}, {load - limit} over C_U {limit}", words)
+    load = [*drives, source][place]
     seen[11, "source" if place == len(drives) else "entry"] += 1
+    return hold(load > limit and words == f"{front} drives {load}, {load - limit} over C_U {limit}", words)
 
 
 def words_12(words, case, place):
@@ -461,6 +465,7 @@ def check_twin(data, is_placement):
     refused, place = refusal_of(data, is_placement)
     hold(("wrong: " in text) == (refused is not None), text)
     at, node = 0, 0 if is_placement else 1
+    childless = (node_byte(data, place) if place else len(data) - 3) if refused == 5 else None
     for row in rows:
         bytes_here, _, comment = row.partition("#")
         here = bytes.fromhex(bytes_here)
@@ -468,8 +473,7 @@ def check_twin(data, is_placement):
         if refused is None or refused == 5 or at < place:
             hold(comment.split("; wrong: ")[0] == " " + described(data, at, node), row)
             node += data[at] in (BRANCH, SINK, ENTRY)
-            marked = refused == 5 and at == (node_byte(data, place) if place else len(data) - 3)
-            hold(not marked or "has no child" in comment, row)
+            hold(at != childless or "has no child" in comment, row)
             hold("wrong" not in comment or ("has no child" in comment and is_childless(data, at)), row)
         elif at == place:
             hold("wrong: " in comment, row)
@@ -611,6 +615,7 @@ def known_cases():
         yield case_of("finish", ref.net_bytes(net), EMPTY)
     for net, given, _ in compare.HALVES:
         yield case_of("finish", ref.net_bytes(net), ref.placement_bytes(Placement([w for w, _ in given], [o for _, o in given])))
+    yield case_of("solve", ANY_NET + bytes(100_000))
     for pair in ((CHAIN, STAR), (STAR, CHAIN), (HERE, THERE)):
         yield case_of("carry", *map(ref.net_bytes, pair), EMPTY)
 
@@ -627,54 +632,89 @@ def check_answer(case):
         drives, source = ref.loads(net, ref.read_placement(case.files[-1]))
         most = max([*drives, source])
         place = [*drives, source].index(most)
-        wire = re.search(r"(?:the source|entry (\d+) \(wire (\d+) offset (\d+)\)): it drives (\d+), (\d+) below C_U", page)
-        hold(wire and int(wire[4]) == most and int(wire[5]) == net.limits.limit - most, page)
-        placement = list(zip(*ref.read_placement(case.files[-1])))
-        hold((wire[1] is None) == (place == len(drives)) and (wire[1] is None or placement[int(wire[1])] == (int(wire[2]), int(wire[3]))), page)
-        hold(wire[1] is None or int(wire[1]) == place, page)
+        entries = [f"entry {k} (wire {w} offset {o})" for k, (w, o) in enumerate(zip(*ref.read_placement(case.files[-1])))]
+        fullest = [*entries, "the source"][place]
+        hold(f"No driver is fuller than {fullest}: it drives {most}, {net.limits.limit - most} below C_U." in page, page)
     seen[case.line.split()[0]] += 1
 
 
-def check_stranger(case, line):
-    """A line that is not of these bytes: nothing is said of them beyond the line, and nothing breaks."""
-    case = case._replace(line=line)
-    refusal = parsed(case)
-    words = said(case, "words", case.verb)
-    page = said(case, "show")
+def check_stranger(case):
+    """A line that may not be of these bytes: nothing breaks, and what is said beyond the line itself is true of the bytes."""
+    words, page, refusal = said(case, "words", case.verb), said(case, "show"), parsed(case)
     hold(page.endswith("\n"), page)
-    if not refusal or not 1 <= refusal[2] <= 6 or refusal[0] >= len(case.files):
+    bare = said(case._replace(files=(None,) * len(case.files), loads=""), "words", case.verb)
+    hold(bool(words) == bool(bare), words)
+    if words == bare or None in case.files:
         return
     of, is_placement, refused, place = refusal
-    if words and refusal_of(case.files[of], is_placement) != (refused, place):
-        digits = {int(word) for word in re.findall(r"\d+", words.split(": ", 1)[1])}
-        hold(digits <= {place} or "inverters" in words, "more than the line says", words, line)
+    if refused in PAIR_WORDS:
+        PAIR_WORDS[refused](words.partition(": ")[2], case, place)
+    else:
+        hold(refused == 8 or refusal_of(case.files[of], is_placement) == (refused, place) or "inverters" in words, words)
+    seen["strangers' words"] += 1
 
 
 def strangers(chance, cases):
     lines = [case.line for case in cases]
     words = ("net ", "first net ", "second net ", "placement ", "", "", "refused ", "\x1b[31m", "legal ", "\u0663")
     for case in cases:
-        yield case, chance.choice(lines)
-        yield case, f"{chance.choice(words)}refused {chance.randrange(16)} place {chance.choice((0, 1, 5, 12, 14, 99, 10 ** 19, 10 ** 30))}"
+        yield case._replace(line=chance.choice(lines))
+        place = chance.choice((0, 1, 5, 12, 14, 99, 10 ** 19, 10 ** 30))
+        yield case._replace(line=f"{chance.choice(words)}refused {chance.randrange(16)} place {place}")
         junk = tuple(chance.choice((data, None, chance.randbytes(chance.randrange(60)))) for data in case.files)
-        yield case._replace(files=junk), case.line
+        yield case._replace(files=junk)
+
+
+def pair_strangers(chance, many):
+    """Sound files with a line of 10 to 13 at a place of chance: few of the lines are true."""
+    for _ in range(many):
+        net = compare.random_net(chance, 7, 60, 6, 4)
+        given = compare.random_given(chance, net)
+        second = ref.net_bytes(spoiled(chance, net))
+        files = ref.net_bytes(net), *([second] if refusal_of(second, False)[0] is None else []), ref.placement_bytes(given)
+        for refused in (10, 11, 12, 13)[:len(files) + 1]:
+            yield Case("check", files, f"refused {refused} place {chance.randrange(6)}", loads_text(net, given))
 
 
 def check_strangers(chance, cases):
-    for case, line in strangers(chance, cases):
-        if None in case.files:
-            said(case, "words", case.verb)
-            said(case, "show")
-        else:
-            check_stranger(case, line)
+    for case in [*strangers(chance, cases), *pair_strangers(chance, 100)]:
+        try:
+            check_stranger(case)
+        except Exception as why:
+            sys.exit(f"{case}: {type(why).__name__}: {why}")
+
+
+def check_bare():
+    """No bytes at hand: the refusal's own numbers, and where an entry begins."""
+    for refused in range(1, 14):
+        for place in (0, 7, 5000):
+            case = Case("check", (None,) * (3 if refused == 13 else 2), f"refused {refused} place {place}", "")
+            line = said(case, "words", "check")
+            hold(line.startswith(NAMES[len(case.files)][parsed(case)[0]] + ": "), line)
+            due = {str(place), str(5 + 9 * place), "4,096"} if refused in (9, 10) else {str(place)}
+            hold(set(re.findall(r"[\d,]*\d", line)) - {str(refused)} <= due, line)
+            hold(refused != 10 or f"entry {place} (byte {5 + 9 * place})" in line, line)
+
+
+def check_reading_on(chance):
+    """Behind one damaged field the twin says what it says of the sound file."""
+    for _ in range(60):
+        data = ref.net_bytes(compare.random_net(chance, 7, 60, 6, 4))
+        fields = before(data, len(data) - 3)[1:]
+        place = chance.randrange(len(fields))
+        damaged = bytearray(data)
+        damaged[fields[place][0] + chance.choice((0, 2))] ^= 0x40
+        sound, torn = (twin.answer(["text", stored("x", bytes(some))]).decode().splitlines()[1:] for some in (data, damaged))
+        hold(len(sound) == len(torn), "\n".join(torn))
+        differ = [number for number, rows in enumerate(zip(sound, torn)) if rows[0] != rows[1]]
+        hold(differ == [place + 1] and f"node {place + 1}; wrong: " in torn[place + 1], "\n".join(torn))
 
 
 # ---------------------------------------------------------------- the tools as processes
 
-def run(*words, stdin=b"", closed=(), **more):
-    done = subprocess.run([DESK / words[0], *words[1:]], input=stdin if "stdin_file" not in more else None, stdin=more.pop("stdin_file", None),
-                          stdout=more.pop("stdout", subprocess.PIPE), stderr=subprocess.PIPE, timeout=60,
-                          preexec_fn=lambda: [os.close(number) for number in closed], **more)
+def run(*words, stdin=b"", closed=(), stdout=subprocess.PIPE):
+    done = subprocess.run([DESK / words[0], *words[1:]], input=stdin, stdout=stdout, stderr=subprocess.PIPE, timeout=60,
+                          preexec_fn=lambda: [os.close(number) for number in closed])
     return done.returncode, done.stdout or b"", done.stderr
 
 
@@ -735,7 +775,8 @@ def check_explain_processes():
     hold(run(*words, margins, *net, *pairs)[2] == line, "loads with margins")
     hold(run(*words, "", *net, *pairs)[2] == b"over.place: entry 0 (wire 1 offset 7, byte 5) drives more than C_U 10\n", "without loads")
     hold(run(*words, "", *net, "-", "")[2].startswith(b"standard input: driver 0 drives more than C_U"), "without bytes")
-    hold(run("explain", "words", "solve", "refused 1 place 26", "", "a\n.net", "/dev/zero")[2].startswith(b"a\\012.net: byte 26: "), "a device")
+    device = run("explain", "words", "solve", "refused 1 place 26", "", "a\n.net", "/dev/zero")[2]
+    hold(device.startswith(b"a\\012.net: byte 26: "), device)
     hold(run("explain", "words", "check", "legal 1", "", *net, *pairs) == (0, b"", b""), "no refusal")
     status, page, err = run("explain", "show", "refused 11 place 0", loads, *net, *pairs)
     hold((status, err) == (0, b"") and page.startswith(b"refused 11 place 0\n\n" + line[:-1]), page, err)
@@ -786,12 +827,12 @@ def check_twins(chance, cases):
     return len(files) + 300
 
 
-KINDS = {*range(1, 14), (3, LIMITS, "C_U"), (3, LIMITS, "C_b"), (3, LIMITS, "type"), (3, BRANCH, "wire"), (3, SINK, "wire"), (3, SINK, "pin"),
-         (3, SINK, "polarity"), (3, COUNT, "count"), (3, ENTRY, "wire"), (3, ENTRY, "offset"), (5, "node"), (5, "source"),
+KINDS = {*range(1, 14), (3, LIMITS, "C_U"), (3, LIMITS, "C_b"), (3, LIMITS, "type"), (3, BRANCH, "wire"), (3, SINK, "wire"),
+         (3, SINK, "pin"), (3, SINK, "polarity"), (3, COUNT, "count"), (3, ENTRY, "wire"), (3, ENTRY, "offset"), (5, "node"), (5, "source"),
          (4, "its parent # is no smaller number"), (4, "its parent # is a sink (byte #)"), (4, "its parent # has eight children already"),
          (4, "one node too many: besides the source a net has at most #,#"),
          *((8, what, kind) for what in ("pin", "node", "source") for kind in (0, 1)),
-         (10, "no wire"), (10, "past"), (10, "order"), (11, "entry"), (11, "source"), "legal", "least", "described",
+         (10, "no wire"), (10, "past"), (10, "order"), (11, "entry"), (11, "source"), "legal", "least", "described", "strangers' words",
          *((13, words) for words in (
              "C_U fell from # to #", "C_b grew from # to #", "the type changed from buffer to inverter", "its parent changed from # to #",
              "its wire grew from # to #", "its pin grew from # to #", "its polarity changed from plus to minus",
@@ -809,7 +850,9 @@ def main():
             files = " ".join("-" if data is None else data.hex() or "empty" for data in case.files)
             sys.exit(f"{case.verb}: {case.line}: {type(why).__name__}: {why}\n{files}")
     twins = check_twins(chance, cases)
-    check_strangers(chance, chance.sample(cases, 400))
+    check_strangers(chance, chance.sample(cases, 300))
+    check_bare()
+    check_reading_on(chance)
     check_twin_processes(chance)
     check_outputs()
     check_explain_processes()
