@@ -1,4 +1,5 @@
 """Files and standard streams for the desk's tools: one line on standard error and status 2 where something fails, never a traceback."""
+import errno
 import os
 import signal
 import stat
@@ -20,19 +21,25 @@ def shown(name):
 
 def read_all(name, most):
     """The bytes of a file, or of standard input where the name is -."""
-    if os.path.isdir(name):
-        raise NoAnswer(f"{shown(name)} is a folder")
     try:
-        with open(0 if name == "-" else name, "rb", closefd=name != "-") as file:
-            data = file.read(most + 1)
+        descriptor = 0 if name == "-" else os.open(name, os.O_RDONLY)
+        return read_to_end(descriptor, most)
     except FileNotFoundError:
         raise NoAnswer(f"{shown(name)}: no such file") from None
-    except (OSError, ValueError) as why:
-        raise NoAnswer(f"{shown(name)} could not be read ({getattr(why, 'strerror', None) or why})") from None
-    if data is None or len(data) > most:
-        why = "there is nothing to read yet" if data is None else f"it has more than {most:,} bytes"
-        raise NoAnswer(f"{shown(name)} could not be read ({why})")
-    return data
+    except IsADirectoryError:
+        raise NoAnswer(f"{shown(name)} is a folder") from None
+    except OSError as why:
+        raise NoAnswer(f"{shown(name)} could not be read ({why.strerror})") from None
+
+
+def read_to_end(descriptor, most):
+    """Not by a file of Python's, which takes a read that would have to wait for the end."""
+    data = bytearray()
+    while part := os.read(descriptor, 1 << 16):
+        data += part
+        if len(data) > most:
+            raise OSError(errno.EFBIG, f"it has more than {most:,} bytes")
+    return bytes(data)
 
 
 def read_regular(name, most):

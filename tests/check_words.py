@@ -650,7 +650,8 @@ def check_stranger(case):
     if refused in PAIR_WORDS:
         PAIR_WORDS[refused](words.partition(": ")[2], case, place)
     else:
-        hold(refused == 8 or refusal_of(case.files[of], is_placement) == (refused, place) or "inverters" in words, words)
+        own = case.verb == "finish" and case.line == "refused 3 place 0" and case.files[0][11] == 1
+        hold(refused == 8 or own or refusal_of(case.files[of], is_placement) == (refused, place), words)
     seen["strangers' words"] += 1
 
 
@@ -672,8 +673,10 @@ def pair_strangers(chance, many):
         given = compare.random_given(chance, net)
         second = ref.net_bytes(spoiled(chance, net))
         files = ref.net_bytes(net), *([second] if refusal_of(second, False)[0] is None else []), ref.placement_bytes(given)
-        for refused in (10, 11, 12, 13)[:len(files) + 1]:
-            yield Case("check", files, f"refused {refused} place {chance.randrange(6)}", loads_text(net, given))
+        lines = [(refused, chance.randrange(6)) for refused in (10, 11, 13)[:len(files)]]
+        for refused, place in lines + [(12, node) for node in range(len(net.kind)) if net.kind[node]]:
+            yield Case("check", files, f"refused {refused} place {place}", loads_text(net, given))
+        yield Case("finish", (files[0], files[-1]), f"refused {chance.randrange(1, 7)} place {chance.choice((0, 12))}", "")
 
 
 def check_strangers(chance, cases):
@@ -712,9 +715,10 @@ def check_reading_on(chance):
 
 # ---------------------------------------------------------------- the tools as processes
 
-def run(*words, stdin=b"", closed=(), stdout=subprocess.PIPE):
-    done = subprocess.run([DESK / words[0], *words[1:]], input=stdin, stdout=stdout, stderr=subprocess.PIPE, timeout=60,
-                          preexec_fn=lambda: [os.close(number) for number in closed])
+def run(*words, stdin=b"", closed=(), stdout=subprocess.PIPE, pipe=None):
+    given = {"input": stdin} if pipe is None else {"stdin": pipe}
+    done = subprocess.run([DESK / words[0], *words[1:]], stdout=stdout, stderr=subprocess.PIPE, timeout=60,
+                          preexec_fn=lambda: [os.close(number) for number in closed], **given)
     return done.returncode, done.stdout or b"", done.stderr
 
 
@@ -741,6 +745,12 @@ def check_twin_processes(chance):
     fails(run("twin", "file", folder), b"folder")
     fails(run("twin", "text", "/proc/self/mem"), b"read")
     fails(run("twin", "text", "-", closed=[0]), b"standard input")
+    read, write = os.pipe()
+    os.set_blocking(read, False)
+    os.write(write, ANY_NET[:20])
+    fails(run("twin", "text", "-", pipe=read), b"standard input", b"read")
+    os.close(read)
+    os.close(write)
     fails(run("twin", "text"), b"text FILE")
     for text, place in ((b"01 0", b"line 1, column 4"), (b"# a\n01 0g", b"line 2, column 4"), (b"0\n1", b"line 1, column 1"),
                         (b"01\n\n \xff", b"line 3, column 2"), (b"01 2 3", b"line 1, column 4"), ("0\u0661".encode(), b"line 1, column 1")):
@@ -773,7 +783,8 @@ def check_explain_processes():
     hold(run(*words, loads, *net, *pairs) == (0, b"", line), "the design's example")
     margins = stored("m", b"worst wire 1 offset 7 margin -1\nwire 1 offset 7 drives 11 margin -1\nsource drives 9 margin 1\n")
     hold(run(*words, margins, *net, *pairs)[2] == line, "loads with margins")
-    hold(run(*words, "", *net, *pairs)[2] == b"over.place: entry 0 (wire 1 offset 7, byte 5) drives more than C_U 10\n", "without loads")
+    for other in ("", stored("o", b"wire 1 offset 6 drives 12\nsource drives 9\n")):
+        hold(run(*words, other, *net, *pairs)[2] == b"over.place: entry 0 (wire 1 offset 7, byte 5) drives more than C_U 10\n", other)
     hold(run(*words, "", *net, "-", "")[2].startswith(b"standard input: driver 0 drives more than C_U"), "without bytes")
     device = run("explain", "words", "solve", "refused 1 place 26", "", "a\n.net", "/dev/zero")[2]
     hold(device.startswith(b"a\\012.net: byte 26: "), device)
@@ -840,7 +851,7 @@ KINDS = {*range(1, 14), (3, LIMITS, "C_U"), (3, LIMITS, "C_b"), (3, LIMITS, "typ
 
 
 def main():
-    chance, many = random.Random(SEED), int(sys.argv[1]) if len(sys.argv) > 1 else 120
+    chance, many = random.Random(SEED), int(sys.argv[1]) if len(sys.argv) > 1 else 80
     examples = check_examples()
     cases = [*file_cases(), *known_cases(), *random_cases(chance, many)]
     for case in cases:
