@@ -23,8 +23,8 @@ use Rattle.finish.specs.Answer.{halfJudged, Outcome, none, full, finished, Answ
 use Rattle.finish.proofs.Judging.{half-sound}
 use Rattle.answer.specs.Text.{countedText}
 use Rattle.reply.specs.declared.Reply.{Reply}
-use Rattle.reply.specs.Said.{Said, answered, refusal, Replies}
-use Rattle.finish_reply.specs.Finishes.{addedWord, fileOf, FinishesBy, FinishReplies, Completed, Tells}
+use Rattle.reply.specs.Said.{Conveys, Said, answered, refusal, Replies}
+use Rattle.finish_reply.specs.Finishes.{addedWord, fileOf, FinishesBy, Finishes, Completed, Tells}
 use Rattle.finish_reply.specs.Finishes.{none as says-none, full as says-full, finished as says-finished}
 
 -- k entries in the first places of two columns complete the given ones, and no fewer do
@@ -90,7 +90,7 @@ module _ {n : Net} {gw go ws os : List ℕ} {k : ℕ} (p : Completing n gw go k 
     few-added = omega (arith, p .wires-taken, p .few);
   }
 
-  pub told : {texts files : List ℕ} {r : Reply} → Tells gw go (take k ws) (take k os) texts files r → FinishReplies n gw go texts files r
+  pub told : {texts files : List ℕ} {r : Reply} → Tells gw go (take k ws) (take k os) texts files r → Conveys (Finishes n gw go) texts files r
   told {texts} {files} {r} t =
       let a : List Entry = entries (take k ws) (take k os) in
       let c : Completes n (entries gw go) a = p .completes in
@@ -99,7 +99,7 @@ module _ {n : Net} {gw go ws os : List ℕ} {k : ℕ} (p : Completing n gw go k 
       ap (λ (x : List ℕ). answered (countedText addedWord x (take k os)) (fileOf (c .whole))) (p .wires-back) ∙ ap (λ (x : List ℕ). answered (countedText addedWord (map wire a) x) (fileOf (c .whole))) (p .offsets-back) in
       record {
         said = s;
-        is = subst (λ (j : Judged). FinishesBy j n (entries gw go) s) (sym (p .judged)) (says-finished a (c .whole) (c .joins) (c .legal) (subst (λ (x : ℕ). LeastAdded n (entries gw go) x) (sym (p .long)) (p .least)) (omega (arith, p .long, p .few)) same);
+        right = subst (λ (j : Judged). FinishesBy j n (entries gw go) s) (sym (p .judged)) (says-finished a (c .whole) (c .joins) (c .legal) (subst (λ (x : ℕ). LeastAdded n (entries gw go) x) (sym (p .long)) (p .least)) (omega (arith, p .long, p .few)) same);
         replies = record { text = t .text; file = t .file n sound c; status = t .status };
       }
 
@@ -114,5 +114,5 @@ module _ (n : Net) (gw go ws os ws′ os′ : List ℕ) {r : Finished} (why : Re
   refusing judge.Sound a = refused-outcome a
   refusing (judge.Refused x) a = let f = a .0 in ap (refusal []) (cc)
 
-  pub refused : {texts files : List ℕ} {reply : Reply} → Answered (halfJudged n gw go) n (entries gw go) ws os ws′ os′ r → Replies (refusal [] why) texts files reply → FinishReplies n gw go texts files reply
-  refused a s = record { said = refusal [] why; is = refusing (halfJudged n gw go) a; replies = s }
+  pub refused : {texts files : List ℕ} {reply : Reply} → Answered (halfJudged n gw go) n (entries gw go) ws os ws′ os′ r → Replies (refusal [] why) texts files reply → Conveys (Finishes n gw go) texts files reply
+  refused a s = record { said = refusal [] why; right = refusing (halfJudged n gw go) a; replies = s }

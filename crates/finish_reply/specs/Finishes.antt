@@ -18,7 +18,7 @@ use Rattle.rules.specs.Sound.{SoundNet}
 use Rattle.placement_file.specs.File.{wire, offset, placementBytes}
 use Rattle.finish.specs.Answer.{halfJudged}
 use Rattle.answer.specs.Text.{countedText}
-use Rattle.reply.specs.Said.{Said, answered, refusal, Shows, Replies}
+use Rattle.reply.specs.Said.{Said, answered, refusal, Shows}
 use Rattle.reply.specs.declared.Reply.{Reply}
 
 -- "added "
@@ -43,12 +43,6 @@ FinishesBy (Refused r) n g s = s ≡ refusal [] r
 
 abbrev pub Finishes : Net → List ℕ → List ℕ → Said → Type 0
 Finishes n ws os s = FinishesBy (halfJudged n ws os) n (entries ws os) s
-
--- as it is handed over
-pub record FinishReplies (n : Net) (ws os texts files : List ℕ) (r : Reply) : Type 0 where
-  pub said : Said
-  pub is : Finishes n ws os said
-  pub replies : Replies said texts files r
 
 -- ---- between the functions
 

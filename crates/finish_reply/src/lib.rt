@@ -5,8 +5,8 @@ use rules::Limits;
 ghost use Prim.Native.Nat.{_≤_};
 ghost use lib.ListN.{length};
 ghost use Rattle.rules.specs.Net.{netAt};
-ghost use Rattle.reply.specs.Said.{mostText, mostFile};
-ghost use Rattle.finish_reply.specs.Finishes.{FinishReplies, Completed, ShowsWhole, Tells};
+ghost use Rattle.reply.specs.Said.{Conveys, mostText, mostFile};
+ghost use Rattle.finish_reply.specs.Finishes.{Finishes, Completed, ShowsWhole, Tells};
 
 // The most entries of a placement's columns and of its file.
 const ENTRIES: usize = 4096;
@@ -67,7 +67,7 @@ pub fn finish(
     file: &mut [u8],
 ) -> Reply
     requires { ⌜ (mostText ≤ length (now out)) × (mostFile ≤ length (now file)) ⌝ }
-    ensures { λ r. ⌜ FinishReplies (netAt limits (parent .entry) (wire .entry) (kind .entry) (pin .entry) (polarity .entry)) (now (given .entry)) (now (offsets .entry)) (now (out .exit)) (now (file .exit)) r ⌝ }
+    ensures { λ r. ⌜ Conveys (Finishes (netAt limits (parent .entry) (wire .entry) (kind .entry) (pin .entry) (polarity .entry)) (now (given .entry)) (now (offsets .entry))) (now (out .exit)) (now (file .exit)) r ⌝ }
 {
     let mut wires = [0u16; ENTRIES];
     let mut offs = [0u32; ENTRIES];
