@@ -1,22 +1,16 @@
 -- `check` answers, with status "0", exactly where the columns hold a legal placement of a sound net; its text is then `legal N` and
 -- `source drives L`.
 use Prim.Native.Nat.{ℕ}
-use native.Mathlib.Omega.{arith}
-use mathlib.Core.Path.{_≡_, refl}
+use mathlib.Core.Path.{_≡_}
 use mathlib.Core.Logic.{_↔_}
 use mathlib.Core.List.{List, []}
-use Rattle.rules.specs.declared.Judged.{Judged}
-use Rattle.rules.specs.declared.Judged.the-variants.{Sound, Refused}
 use Rattle.rules.specs.Net.{Net}
 use Rattle.rules.specs.Checked.{checked}
 use Rattle.checker.specs.Verdict.{LegalColumns}
 use Rattle.checker.proofs.CheckedIsLegal.{checked-is-legal}
-use Rattle.reply.specs.Said.{Said, answered, orRefusal}
+use Rattle.reply.specs.Said.{answered}
+use Rattle.reply.proofs.Judged.{answered-passed}
 use Rattle.check_reply.specs.Checks.{legalText, checkSaid}
-
-answered-passed : (j : Judged) (text : List ℕ) → orRefusal j (answered text []) .status ≡ 48 → j ≡ Sound
-answered-passed Sound text e = refl
-answered-passed (Refused r) text e = absurd (omega arith)
 
 module _ (n : Net) (ws os : List ℕ) where
   pub legal-says : LegalColumns n ws os → checkSaid n ws os ≡ answered (legalText n ws os) []
@@ -26,4 +20,4 @@ module _ (n : Net) (ws os : List ℕ) where
   check-says = (passed, λ l. rw (checked-is-legal n ws os .1 l))
     where
       passed : checkSaid n ws os .status ≡ 48 → LegalColumns n ws os
-      passed e = checked-is-legal n ws os .0 (answered-passed (checked n ws os) (legalText n ws os) e)
+      passed e = checked-is-legal n ws os .0 (answered-passed (checked n ws os) (legalText n ws os) [] e)

@@ -140,14 +140,15 @@ columns-back es p =
     let each : rangesJudged vs os ≡ Sound = each-sound (rangeJudged vs os) (length vs) 0 (λ j lo hi. rw (at-each es (p .ranged) j (omega arith))) in
     rw (level, each, entries-back es)
 
-split : (vs os : List ℕ) → length os ≡ length vs → (vs ≡ map wire (entries vs os)) × (os ≡ map offset (entries vs os))
+-- columns of one length are those of their entries
+pub split : (vs os : List ℕ) → length os ≡ length vs → (vs ≡ map wire (entries vs os)) × (os ≡ map offset (entries vs os))
 unfolding entries
 split [] [] h = (refl, refl)
 split [] (o ∷ os) h = absurd (omega arith)
 split (v ∷ vs) [] h = absurd (omega arith)
 split (v ∷ vs) (o ∷ os) h = let (p, q) = split vs os (omega arith) in (ap (λ (r : List ℕ). v ∷ r) p, ap (λ (r : List ℕ). o ∷ r) q)
 
--- columns that are sound are those of their entries
+-- and so are columns that are sound
 pub columns-placed : (vs os : List ℕ) (es : List Entry) → columnsOf vs os ≡ placement es → Placed es × (vs ≡ map wire es) × (os ≡ map offset es)
 unfolding columnsOf rangeJudged
 columns-placed vs os es e =

@@ -1,0 +1,3 @@
+pub mod Carrying
+pub mod Says
+pub mod Determined
