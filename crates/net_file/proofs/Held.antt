@@ -1,10 +1,10 @@
--- What the net reader's answer says of the text that is printed, where the columns lent have room for every net.
+-- What the net reader's answer says of the file, where the columns lent have room for every net: 9 is never given, and the columns' first places hold the net.
 use Prim.Native.Nat.{ℕ, _≤_, min}
 use native.Mathlib.Omega.{arith}
 use mathlib.Core.Path.{_≡_, refl, sym, ap, _∙_}
 use mathlib.Core.Bool.{Bool, true, false}
 use mathlib.Core.List.{List}
-use lib.ListN.{length, take}
+use lib.ListN.{length, take, replicate, length-replicate}
 use lib.Seq.{sets, length-sets}
 use lib.Dec.{ltb}
 use borrow.Author.Tests.{le-ltb}
@@ -14,7 +14,7 @@ use Rattle.rules.specs.declared.Refusal.the-variants.{NoRoom}
 use Rattle.rules.specs.declared.Judged.the-variants.{Sound}
 use Rattle.rules.specs.Figures.{mostPlaces}
 use Rattle.rules.specs.Choose.{pick}
-use Rattle.rules.specs.Net.{Net, places}
+use Rattle.rules.specs.Net.{Net, net, unlimited, places}
 use Rattle.rules.specs.Judge.{judged}
 use Rattle.rules.proofs.SoundSays.{sound-says}
 use Rattle.field.proofs.Numbers.{AreBytes}
@@ -30,6 +30,10 @@ pub record Roomy (lent : Net) : Type 0 where
   pub kinds : length (lent .kinds) ≡ mostPlaces
   pub pins : length (lent .pins) ≡ mostPlaces
   pub polarities : length (lent .polarities) ≡ mostPlaces
+
+-- as columns of zeros have that are as long
+pub roomy : Roomy (net unlimited (replicate mostPlaces 0) (replicate mostPlaces 0) (replicate mostPlaces 0) (replicate mostPlaces 0) (replicate mostPlaces 0))
+roomy = let e = length-replicate {A = ℕ} mostPlaces 0 in record { parents = e; wires = e; kinds = e; pins = e; polarities = e }
 
 fits : (s : List ℕ) {n lent : Net} → AreBytes s → Roomy lent → netOf s ≡ read n → ltb (room lent) (places n) ≡ false
 fits s {n} {lent} by r e = le-ltb (room lent) (places n) (omega (arith, sound-says n (same-bytes s n by e .sound) .few, r .parents))

@@ -1,3 +1,2 @@
-pub mod Routing
 pub mod Numbers
 pub mod LegalFiles

@@ -1,82 +1,52 @@
 -- `mustorgyel_check` answers `routed`: 9 is never given, since 1,025 places are room for every net file.
 use native.Mathlib.Omega.{arith}
-use Rattle.router.specs.Routed.{routed}
-use Rattle.router.proofs.Routing.{net-read, net-refused}
+use denote.Ref.{now}
 use borrow.Author.Needs.{needs}
+use Rattle.rules.specs.Net.{Net, net, unlimited}
+use Rattle.field.proofs.Numbers.{AreBytes}
+use Rattle.net_file.proofs.Held.{Holds, roomy, found, unread-says, holds}
+use Rattle.router.specs.Routed.{routed}
 use Rattle.router.proofs.mustorgyel_check.Statement.{statement}
 use Rattle.router.proofs.mustorgyel_check.Tie as tie
 
-slice-aggregate-read-net : tie.Need-slice-aggregate-read-net
-slice-aggregate-read-net c = search needs
+abbrev left : tie.After-read-net → Net
+left c = net unlimited (c .read-net .last .1 .0) (c .read-net .last .1 .1 .0) (c .read-net .last .1 .1 .1 .0) (c .read-net .last .1 .1 .1 .1 .0) (c .read-net .last .1 .1 .1 .1 .1 .0)
 
-slice-aggregate-read-net-2 : tie.Need-slice-aggregate-read-net-2
-slice-aggregate-read-net-2 c = search needs
+bytes : (c : tie.After-read-net) → AreBytes (now (c .before .before .before .before .before .before .before .before .args .net))
+bytes c k = omega (arith, c .before .before .before .before .before .before .before .shared-slice-known .given k)
 
-slice-aggregate-read-net-3 : tie.Need-slice-aggregate-read-net-3
-slice-aggregate-read-net-3 c = search needs
-
-slice-aggregate-read-net-4 : tie.Need-slice-aggregate-read-net-4
-slice-aggregate-read-net-4 c = search needs
-
-slice-aggregate-read-net-5 : tie.Need-slice-aggregate-read-net-5
-slice-aggregate-read-net-5 c = search needs
-
-read-net-requires : tie.Need-read-net-requires
-read-net-requires c κs = search needs
-
-enum-known-read : tie.Need-enum-known-read
-enum-known-read c = search needs
-
-number-requires : tie.Need-number-requires
-number-requires c κs = search needs
-
-enum-known-read-2 : tie.Need-enum-known-read-2
-enum-known-read-2 c = search needs
-
-slice-aggregate-check-columns : tie.Need-slice-aggregate-check-columns
-slice-aggregate-check-columns c = search needs
-
-slice-aggregate-check-columns-2 : tie.Need-slice-aggregate-check-columns-2
-slice-aggregate-check-columns-2 c = search needs
-
-slice-aggregate-check-columns-3 : tie.Need-slice-aggregate-check-columns-3
-slice-aggregate-check-columns-3 c = search needs
-
-slice-aggregate-check-columns-4 : tie.Need-slice-aggregate-check-columns-4
-slice-aggregate-check-columns-4 c = search needs
-
-slice-aggregate-check-columns-5 : tie.Need-slice-aggregate-check-columns-5
-slice-aggregate-check-columns-5 c = search needs
+held : (c : tie.After-read2) → Holds (now (c .before .before .before .before .before .before .before .before .before .before .before .before .before .before .before .args .net)) (c .read2 .given .0 .1 .0) (c .read2 .given .0 .0) (left (c .before .before .before .before .before .before .before))
+held c = holds (c .read2 .given .0 .0) (c .read2 .given .0 .1 .0) (bytes (c .before .before .before .before .before .before .before)) roomy (c .before .before .before .before .before .before .before .read-net .ensures) (c .read2 .given .1)
 
 check-columns-requires : tie.Need-check-columns-requires
-check-columns-requires c κs = net-read (λ k. omega (arith, c .before .before .before .before .before .before .before .before .before .before .before .before .before .before .before .before .before .before .before .before .shared-slice-known .given k)) (c .before .before .before .before .before .before .before .before .before .before .before .before .before .read-net .ensures) (c .before .before .before .before .before .before .read2 .given .1) .0
+check-columns-requires c κs = let h = held (c .before .before .before .before .before .before) in let l = h .long in omega (arith, h .few, l .parents, l .wires, l .kinds, l .pins, l .polarities)
 
 returns : tie.Need-returns
 unfolding routed
-returns c = rw (net-refused (λ k. omega (arith, c .before .before .before .before .before .before .before .before .before .before .before .before .before .before .before .before .shared-slice-known .given k)) (omega arith) (c .before .before .before .before .before .before .before .before .before .read-net .ensures) (c .before .before .read .given .1)) (c .number .ensures)
+returns c = let r = c .before .before .read .given in rw (unread-says (r .0 .0) (found (bytes (c .before .before .before .before .before .before .before .before .before)) roomy (c .before .before .before .before .before .before .before .before .before .read-net .ensures)) (r .1)) (c .number .ensures)
 
 returns-2 : tie.Need-returns-2
 unfolding routed
-returns-2 c = rw (net-read (λ k. omega (arith, c .before .before .before .before .before .before .before .before .before .before .before .before .before .before .before .before .before .before .before .before .before .shared-slice-known .given k)) (c .before .before .before .before .before .before .before .before .before .before .before .before .before .before .read-net .ensures) (c .before .before .before .before .before .before .before .read2 .given .1) .1) (c .check-columns .ensures)
+returns-2 c = rw (held (c .before .before .before .before .before .before .before) .is) (c .check-columns .ensures)
 
 pub mustorgyel-check-spec : {M : Type 1} → statement M
 mustorgyel-check-spec =
     tie.close
     (tie.spec
-    slice-aggregate-read-net
-    slice-aggregate-read-net-2
-    slice-aggregate-read-net-3
-    slice-aggregate-read-net-4
-    slice-aggregate-read-net-5
-    read-net-requires
-    enum-known-read
-    number-requires
-    enum-known-read-2
-    slice-aggregate-check-columns
-    slice-aggregate-check-columns-2
-    slice-aggregate-check-columns-3
-    slice-aggregate-check-columns-4
-    slice-aggregate-check-columns-5
+    (λ c. search needs)
+    (λ c. search needs)
+    (λ c. search needs)
+    (λ c. search needs)
+    (λ c. search needs)
+    (λ c κs. search needs)
+    (λ c. search needs)
+    (λ c κs. search needs)
+    (λ c. search needs)
+    (λ c. search needs)
+    (λ c. search needs)
+    (λ c. search needs)
+    (λ c. search needs)
+    (λ c. search needs)
     check-columns-requires
     returns
     returns-2)
