@@ -4,6 +4,7 @@ pub mod Writing
 pub mod Parts
 pub mod RoundTrip
 pub mod Due
+pub mod Alike
 pub mod ReadNumbers
 pub mod Example
 pub mod Listing

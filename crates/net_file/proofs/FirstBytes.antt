@@ -2,20 +2,17 @@
 -- that are longer than that and alike so far are read alike, and neither is a net.
 use Prim.Native.Nat.{ℕ, zero, suc, _+_, _*_, _-_, _≤_, _<_}
 use native.Mathlib.Omega.{arith}
-use mathlib.Core.Path.{_≡_, refl, sym, ap, _∙_}
-use mathlib.Core.Bool.{Bool, true, false}
-use mathlib.Core.List.{List, [], _∷_}
-use lib.ListN.{length, getD, take, drop, length-drop}
-use lib.Seq.{getD-take, getD-drop, length-take-le, take-all}
-use lib.Dec.{ltb, eqb, leb}
-use borrow.Author.Tests.{eqb-true, eqb-false, le-ltb, lt-leb, leb-true}
+use mathlib.Core.Path.{_≡_, refl, ap, _∙_}
+use mathlib.Core.List.{List}
+use lib.ListN.{length, take}
+use lib.Dec.{leb}
+use borrow.Author.Tests.{lt-leb, leb-true}
 use Rattle.rules.specs.declared.Limits.{Limits}
 use Rattle.rules.specs.declared.Node.{Node}
 use Rattle.rules.specs.declared.Refusal.{Refusal}
-use Rattle.rules.specs.declared.Refusal.the-variants.{FileEnds, NotDue, BytesAfterEnd}
+use Rattle.rules.specs.declared.Refusal.the-variants.{BytesAfterEnd}
 use Rattle.rules.specs.declared.Judged.{Judged}
 use Rattle.rules.specs.declared.Judged.the-variants.{Sound}
-use Rattle.rules.specs.Choose.{pick}
 use Rattle.rules.specs.Net.{Net}
 use Rattle.rules.specs.Judge.{unless, thenJudge, nodeJudged, childed}
 use Rattle.rules.proofs.Tests.{never, unless-met, then-met}
@@ -23,62 +20,16 @@ use Rattle.field.specs.declared.Value.{Value}
 use Rattle.field.specs.declared.Value.the-variants.{Limits as LimitsField, Branch, Sink, Count, Entry, End}
 use Rattle.field.specs.declared.FieldRead.{FieldRead}
 use Rattle.field.specs.declared.FieldRead.the-variants.{Got, Cut, Refused as NoField}
-use Rattle.field.specs.Format.{numberAt, numbersAt, sum, widthsOf, lengthOf, tagOf, valueOf, valueIn, fieldIn, fieldAt, dueIn, readPlace}
+use Rattle.field.specs.Format.{fieldAt, dueIn, readPlace}
 use Rattle.field.proofs.Numbers.{AreBytes}
-use Rattle.field.proofs.Reading.{not-due, got, read-place}
-use Rattle.field.proofs.RoundTrip.{kept}
+use Rattle.field.proofs.Reading.{read-place}
+use Rattle.field.proofs.Alike.{Alike, same-field-at, by-first}
 use Rattle.net_file.specs.declared.Front.{Front}
 use Rattle.net_file.specs.declared.Front.the-variants.{Limits as Found, Refused as NotFound}
 use Rattle.net_file.specs.declared.Taken.{Taken}
 use Rattle.net_file.specs.declared.Taken.the-variants.{Node as OneNode, End as Last, Refused as Neither}
 use Rattle.net_file.specs.NetFile.{frontOf, takenValue, takenOf, takenAt, Fields, nodeAt, follow, fieldsFrom, fieldsJudged, Outcome, read, refused, whenSound, netWith, fieldsOf, netFrom, fromFront, netOf}
 use Rattle.net_file.proofs.WasRead.{was-read}
-
--- ---- one field, of at most 14 bytes
-
-field-size : (v : Value) → lengthOf (tagOf v) ≤ 11
-field-size (LimitsField l) = omega arith
-field-size (Branch p w) = omega arith
-field-size (Sink p w c q) = omega arith
-field-size (Count n) = omega arith
-field-size (Entry e) = omega arith
-field-size End = omega arith
-
--- bytes from a place on that begin alike, and go on for as long as a field does
-pub record Begins (l m : List ℕ) : Type 0 where
-  pub bytes : AreBytes l
-  pub alike : (j : ℕ) → j < 14 → getD l j 0 ≡ getD m j 0
-  pub here : 14 ≤ length l
-  pub there : 14 ≤ length m
-
-module _ {l m : List ℕ} (b : Begins l m) where
-  same-number : (w k : ℕ) → k + w ≤ 14 → numberAt w l k ≡ numberAt w m k
-  same-number zero k h = refl
-  same-number (suc zero) k h = b .alike k (omega arith)
-  same-number (suc (suc w)) k h = rw (same-number (suc w) k (omega arith), b .alike (k + suc w) (omega arith))
-
-  same-numbers : (ws : List ℕ) (k : ℕ) → k + sum ws ≤ 14 → numbersAt ws l k ≡ numbersAt ws m k
-  same-numbers [] k h = refl
-  same-numbers (w ∷ ws) k h = rw (same-number w k (omega arith), same-numbers ws (k + w) (omega arith))
-
-  same-field : (at : ℕ) → fieldIn at l ≡ fieldIn at m
-  same-field at = by (eqb (numberAt 2 l 1) (lengthOf (getD l 0 0))) refl
-    where
-      tag : getD l 0 0 ≡ getD m 0 0
-      tag = b .alike 0 (omega arith)
-
-      said : numberAt 2 l 1 ≡ numberAt 2 m 1
-      said = same-number 2 1 (omega arith)
-
-      by : (q : Bool) → eqb (numberAt 2 l 1) (lengthOf (getD l 0 0)) ≡ q → fieldIn at l ≡ fieldIn at m
-      by false e =
-          let no : numberAt 2 l 1 ≡ lengthOf (getD l 0 0) → ⊥ = eqb-false _ _ e in
-          sym (not-due at l (omega (arith, b .here)) refl refl no) ∙ not-due at m (omega (arith, b .there)) said (ap lengthOf tag) no
-      by true e =
-          let is : numberAt 2 l 1 ≡ lengthOf (getD l 0 0) = eqb-true _ _ e in
-          let few : lengthOf (getD l 0 0) ≤ 11 = rw (kept (getD l 0 0) (omega (arith, b .bytes 1, b .bytes 2)) l .0) at (field-size (valueIn (getD l 0 0) l)) in
-          sym (got at l (omega (arith, b .here)) refl refl is (omega (arith, b .here)) refl)
-          ∙ got at m (omega (arith, b .there)) said (ap lengthOf tag) is (omega (arith, b .there)) (rw (same-numbers (widthsOf (getD l 0 0)) 3 (omega arith), tag))
 
 -- ---- a node's field, and the place after it
 
@@ -105,25 +56,10 @@ near s at d next e = next-of at d next (fieldAt s at) (read-place s at) e
 abbrev pub mostBytes : ℕ
 mostBytes = 14362
 
-pub record Alike (s u : List ℕ) : Type 0 where
-  pub bytes : AreBytes s
-  pub alike : (j : ℕ) → j < mostBytes → getD s j 0 ≡ getD u j 0
-  pub here : mostBytes < length s
-  pub there : mostBytes < length u
-
-module _ {s u : List ℕ} (a : Alike s u) where
-  from : (at : ℕ) → at + 14 ≤ mostBytes → Begins (drop at s) (drop at u)
-  from at h =
-      record {
-        bytes = λ k. rw getD-drop (a .bytes (at + k));
-        alike = λ j i. getD-drop at s j 0 ∙ a .alike (at + j) (omega arith) ∙ sym (getD-drop at u j 0);
-        here = simp length-drop (omega (arith, a .here));
-        there = simp length-drop (omega (arith, a .there));
-      }
-
+module _ {s u : List ℕ} (a : Alike mostBytes s u) where
   same-taken : (at : ℕ) → at + 14 ≤ mostBytes → takenAt s at ≡ takenAt u at
   unfolding takenAt
-  same-taken at h = ap takenOf (same-field (from at h) at)
+  same-taken at h = ap takenOf (same-field-at a at h)
 
   same-fields : (k at : ℕ) → at + 14 * k ≤ mostBytes → fieldsFrom k s at ≡ fieldsFrom k u at
   unfolding fieldsFrom
@@ -154,9 +90,9 @@ module _ {s u : List ℕ} (a : Alike s u) where
       ap (λ (fields : Fields). whenSound (fieldsJudged (netWith l fields) (length s) 1 fields) (netWith l fields)) (same-fields 1025 12 (omega arith))
       ∙ ap (λ (j : Judged). whenSound j (netWith l (fieldsOf u))) (same-judged (netWith l (fieldsOf u)) 1025 12 1 (omega arith))
 
-  pub alike-read : netOf s ≡ netOf u
+  alike-read : netOf s ≡ netOf u
   unfolding netOf
-  alike-read = ap (λ (r : FieldRead). fromFront s (frontOf (dueIn 1 r))) (same-field (from 0 (omega arith)) 0) ∙ on (frontOf (dueIn 1 (fieldAt u 0)))
+  alike-read = ap (λ (r : FieldRead). fromFront s (frontOf (dueIn 1 r))) (same-field-at a 0 (omega arith)) ∙ on (frontOf (dueIn 1 (fieldAt u 0)))
     where
       on : (f : Front) → fromFront s f ≡ fromFront u f
       on (Found l) = same-net l
@@ -165,12 +101,7 @@ module _ {s u : List ℕ} (a : Alike s u) where
 -- ---- the law
 
 pub first-bytes : (s : List ℕ) (n : ℕ) → AreBytes s → mostBytes < n → netOf (take n s) ≡ netOf s
-first-bytes s n by h = cases (length s - n) refl
-  where
-    cases : (more : ℕ) → length s - n ≡ more → netOf (take n s) ≡ netOf s
-    cases zero e = ap netOf (take-all n s (omega arith))
-    cases (suc more) e =
-        sym (alike-read (record { bytes = by; alike = λ j i. sym (getD-take n s j 0 (omega arith)); here = omega arith; there = omega (arith, length-take-le n s (omega arith)) }))
+first-bytes s n by h = by-first netOf mostBytes (λ u v a. alike-read a) s n by h
 
 -- a net's file ends within those bytes
 sound-ends : (s : List ℕ) (n : Net) (size k at i : ℕ) → fieldsJudged n size i (fieldsFrom k s at) ≡ Sound → size ≤ at + 14 * k

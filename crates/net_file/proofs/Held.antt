@@ -1,19 +1,17 @@
 -- What the net reader's answer says of the file, where the columns lent have room for every net: 9 is never given, and the columns' first places hold the net.
-use Prim.Native.Nat.{ℕ, _≤_, min}
+use Prim.Native.Nat.{ℕ, _≤_}
 use native.Mathlib.Omega.{arith}
 use mathlib.Core.Path.{_≡_, refl, sym, ap, _∙_}
-use mathlib.Core.Bool.{Bool, true, false}
+use mathlib.Core.Bool.{false}
 use mathlib.Core.List.{List}
-use lib.ListN.{length, take, replicate, length-replicate}
-use lib.Seq.{sets, length-sets}
+use lib.ListN.{length, replicate, length-replicate}
+use lib.Seq.{length-sets}
 use lib.Dec.{ltb}
 use borrow.Author.Tests.{le-ltb}
 use Rattle.rules.specs.declared.Limits.{Limits}
 use Rattle.rules.specs.declared.Refusal.{Refusal}
-use Rattle.rules.specs.declared.Refusal.the-variants.{NoRoom}
 use Rattle.rules.specs.declared.Judged.the-variants.{Sound}
 use Rattle.rules.specs.Figures.{mostPlaces}
-use Rattle.rules.specs.Choose.{pick}
 use Rattle.rules.specs.Net.{Net, net, unlimited, places}
 use Rattle.rules.specs.Judge.{judged}
 use Rattle.rules.proofs.SoundSays.{sound-says}

@@ -5,3 +5,4 @@ pub mod SamePlacement
 pub mod FileNumbers
 pub mod Example
 pub mod Held
+pub mod FirstBytes
