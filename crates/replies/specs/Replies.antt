@@ -13,6 +13,7 @@ use Rattle.net_file.specs.NetFile as net_file
 use Rattle.placement_file.specs.File as placement_file
 use Rattle.reply.specs.Said.{Said, refusal, Conveys}
 use Rattle.check_reply.specs.Checks.{checkSaid, loadsSaid}
+use Rattle.carry_reply.specs.Carries.{carrySaid}
 use Rattle.finish_reply.specs.Finishes.{Finishes}
 use Rattle.replies.specs.declared.Verb.{Verb}
 use Rattle.replies.specs.declared.Verb.the-variants.{Check, Loads, Finish}
@@ -58,6 +59,17 @@ SaysNet v n file s = OfPlacement file (Says v n) s
 
 abbrev pub SaysFiles : Verb → List ℕ → List ℕ → Said → Type 0
 SaysFiles v first file s = OfNet net first (λ n. SaysNet v n file) s
+
+-- ---- two net files and a placement file
+
+abbrev pub CarriesBetween : Net → Net → List ℕ → Said → Type 0
+CarriesBetween n m file s = OfPlacement file (λ ws os s′. s′ ≡ carrySaid n m ws os) s
+
+abbrev pub CarriesFrom : Net → List ℕ → List ℕ → Said → Type 0
+CarriesFrom n second file s = OfNet secondNet second (λ m. CarriesBetween n m file) s
+
+abbrev pub CarriesFiles : List ℕ → List ℕ → List ℕ → Said → Type 0
+CarriesFiles first second file s = OfNet firstNet first (λ n. CarriesFrom n second file) s
 
 -- ---- between the functions
 

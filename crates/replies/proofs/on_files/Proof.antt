@@ -3,13 +3,13 @@ use Prim.Native.Nat.{ℕ, _≤_}
 use native.Mathlib.Omega.{arith}
 use mathlib.Core.Path.{_≡_, refl, sym}
 use mathlib.Core.List.{List}
-use lib.ListN.{length, take, replicate, length-replicate}
+use lib.ListN.{length, take}
 use lib.Seq.{length-take-le}
 use denote.Ref.{now}
 use borrow.Author.Needs.{needs}
 use Rattle.rules.specs.Net.{Net, net, unlimited}
 use Rattle.field.proofs.Numbers.{AreBytes}
-use Rattle.net_file.proofs.Held.{Roomy, Holds, found, unread-says, holds}
+use Rattle.net_file.proofs.Held.{Holds, roomy, found, unread-says, holds}
 use Rattle.reply.specs.Said.{refusal}
 use Rattle.replies.specs.Replies as say
 use Rattle.replies.proofs.on_files.Statement.{statement}
@@ -23,9 +23,6 @@ left c = net unlimited (c .read-net .last .1 .0) (c .read-net .last .1 .1 .0) (c
 
 bytes : (c : tie.After-read-net) → AreBytes (now (start c .args .net))
 bytes c k = omega (arith, c .before .before .before .before .before .before .before .before .before .shared-slice-known .given k)
-
-roomy : Roomy (net unlimited (replicate 1025 0) (replicate 1025 0) (replicate 1025 0) (replicate 1025 0) (replicate 1025 0))
-roomy = let e = length-replicate {A = ℕ} 1025 0 in record { parents = e; wires = e; kinds = e; pins = e; polarities = e }
 
 -- ---- where a net was read
 
