@@ -1,6 +1,7 @@
 // An input, read to its end or to a buffer's.
 ghost use Prim.Native.Nat.{_≤_};
 ghost use lib.ListN.{length};
+ghost use mathlib.Core.Path.{_≡_};
 ghost use Rattle.input.specs.Input.{countOf};
 
 pub enum Input {
@@ -37,4 +38,20 @@ pub fn read(fd: i32, buffer: &mut [u8]) -> Input
         count += more;
     }
     Input::Bytes(count)
+}
+
+pub fn failed(read: Input) -> bool {
+    match read {
+        Input::Bytes(_) => false,
+        Input::Failed => true,
+    }
+}
+
+pub fn count(read: Input) -> usize
+    ensures { λ r. ⌜ r ≡ countOf read ⌝ }
+{
+    match read {
+        Input::Bytes(count) => count,
+        Input::Failed => 0,
+    }
 }
