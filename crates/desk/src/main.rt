@@ -5,6 +5,7 @@ use libc::STDERR_FILENO;
 use libc::STDOUT_FILENO;
 use replies::Verb;
 use reply::Reply;
+use shelf::Ended;
 
 // The descriptors: the status, the files in the order typed, and what `-o` names.
 const STATUS: i32 = 3;
@@ -120,6 +121,18 @@ fn carry(keep: bool) {
     hand_over(&text, &file, reply, keep)
 }
 
+fn close(ended: Ended) {
+    match ended {
+        Ended::Status(status) => end(status),
+        Ended::NoOutput => say(b"mustorgyel: standard output could not be written\n"),
+        Ended::NoNames => say(b"mustorgyel: the names could not be read to their end\n"),
+        Ended::LongName => say(
+            b"mustorgyel: a name has more than 4,095 bytes; is there a 0 byte after each?\n",
+        ),
+        Ended::TooMany => say(b"mustorgyel: more records than can be counted\n"),
+    }
+}
+
 fn is(word: &[u8], name: &[u8]) -> bool {
     if word.len() != name.len() {
         return false;
@@ -150,6 +163,9 @@ fn run(verb: &[u8], more: &[u8]) {
     }
     if is(verb, b"carry") {
         return carry(keep);
+    }
+    if is(verb, b"audit") {
+        return close(shelf::audit(more));
     }
     say(b"mustorgyel: no such verb\n")
 }

@@ -28,7 +28,7 @@ use Rattle.finish_reply.specs.Finishes.{fileOf, ShowsWhole}
 pub file-some : (p : List Entry) → length p ≤ mostEntries → fileOf p ≡ placementBytes p
 file-some p h = rw (le-leb (length p) mostEntries h)
 
-pub file-none : (p : List Entry) → mostEntries < length p → fileOf p ≡ []
+file-none : (p : List Entry) → mostEntries < length p → fileOf p ≡ []
 file-none p h = rw (lt-leb (length p) mostEntries h)
 
 rising : (n : Net) (d : Entry) (p : List Entry) → InOrder n d p → Rising d p

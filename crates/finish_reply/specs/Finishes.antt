@@ -1,4 +1,4 @@
--- What the verb `finish` says of a net and of the given entries (RULES 10): the added entries, and the whole placement for a file.
+-- What the verb `finish` says of a net and of the given entries (RULES 11): the added entries, and the whole placement for a file.
 use Prim.Native.Nat.{ℕ, _≤_, _<_}
 use mathlib.Core.Path.{_≡_}
 use mathlib.Core.List.{List, [], _∷_, map}

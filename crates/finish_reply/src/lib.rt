@@ -1,4 +1,4 @@
-// The verb `finish`: the fewest entries that, added to the given ones, make the whole legal, and the whole placement for a file (RULES 10).
+// The verb `finish`: the fewest entries that, added to the given ones, make the whole legal, and the whole placement for a file (RULES 11).
 use finish::Finished;
 use reply::Reply;
 use rules::Limits;

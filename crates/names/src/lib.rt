@@ -82,6 +82,27 @@ fn ended(n: usize) -> Name
     Name::Bytes(n)
 }
 
+// Whether a name stands in the buffer, and how many bytes it has.
+pub fn stands(name: Name) -> bool {
+    match name {
+        Name::Bytes(_) => true,
+        Name::End => false,
+        Name::Failed => false,
+        Name::TooLong => false,
+    }
+}
+
+pub fn size(name: Name) -> usize
+    ensures { λ r. ⌜ r ≡ sizeOf name ⌝ }
+{
+    match name {
+        Name::Bytes(n) => n,
+        Name::End => 0,
+        Name::Failed => 0,
+        Name::TooLong => 0,
+    }
+}
+
 // What a name led to.
 pub enum File {
     Bytes(usize),
@@ -165,4 +186,30 @@ pub fn beside(name: &[u8], path: &mut [u8]) -> usize
     let end = stem(name);
     let after = answer::put(path, 0, &name[..end]);
     answer::put(path, after, b".place")
+}
+
+pub fn missing(file: File) -> bool {
+    match file {
+        File::Missing => true,
+        File::Bytes(_) => false,
+        File::Unreadable => false,
+    }
+}
+
+pub fn unreadable(file: File) -> bool {
+    match file {
+        File::Unreadable => true,
+        File::Bytes(_) => false,
+        File::Missing => false,
+    }
+}
+
+pub fn count(file: File) -> usize
+    ensures { λ r. ⌜ r ≡ bytesOf file ⌝ }
+{
+    match file {
+        File::Bytes(count) => count,
+        File::Missing => 0,
+        File::Unreadable => 0,
+    }
 }

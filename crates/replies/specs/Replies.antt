@@ -11,18 +11,14 @@ use Rattle.rules.specs.Net.{Net}
 use Rattle.rules.specs.Judge.{judged}
 use Rattle.net_file.specs.NetFile as net_file
 use Rattle.placement_file.specs.File as placement_file
-use Rattle.reply.specs.Said.{Said, refusal, Conveys}
+use Rattle.reply.specs.Said.{Said, refusal, net, placement}
 use Rattle.check_reply.specs.Checks.{checkSaid, loadsSaid}
 use Rattle.carry_reply.specs.Carries.{carrySaid}
 use Rattle.finish_reply.specs.Finishes.{Finishes}
 use Rattle.replies.specs.declared.Verb.{Verb}
 use Rattle.replies.specs.declared.Verb.the-variants.{Check, Loads, Finish}
 
--- ---- the words
-
--- "net "
-abbrev pub net : List ℕ
-net = 110 ∷ 101 ∷ 116 ∷ 32 ∷ []
+-- ---- the words beside "net " and "placement "
 
 -- "first net "
 abbrev pub firstNet : List ℕ
@@ -31,10 +27,6 @@ firstNet = 102 ∷ 105 ∷ 114 ∷ 115 ∷ 116 ∷ 32 ∷ net
 -- "second net "
 abbrev pub secondNet : List ℕ
 secondNet = 115 ∷ 101 ∷ 99 ∷ 111 ∷ 110 ∷ 100 ∷ 32 ∷ net
-
--- "placement "
-abbrev pub placement : List ℕ
-placement = 112 ∷ 108 ∷ 97 ∷ 99 ∷ 101 ∷ 109 ∷ 101 ∷ 110 ∷ 116 ∷ 32 ∷ []
 
 -- ---- a file at fault, by a word; else what follows from what is in it
 

@@ -28,6 +28,16 @@ abbrev pub orRefusal : Judged → Said → Said
 orRefusal Sound s = s
 orRefusal (Refused r) s = refusal [] r
 
+-- ---- which file is at fault (RULES 11.3)
+
+-- "net "
+abbrev pub net : List ℕ
+net = 110 ∷ 101 ∷ 116 ∷ 32 ∷ []
+
+-- "placement "
+abbrev pub placement : List ℕ
+placement = 112 ∷ 108 ∷ 97 ∷ 99 ∷ 101 ∷ 109 ∷ 101 ∷ 110 ∷ 116 ∷ 32 ∷ []
+
 -- ---- as it is handed over
 
 -- the first r places of a buffer hold a text

@@ -15,6 +15,8 @@ use Rattle.reply.specs.declared.Reply.{Reply}
 use Rattle.reply.specs.Said.{Said, Conveys}
 use Rattle.replies.specs.Replies.{OfNet, OfPlacement}
 use Rattle.replies.specs.Replies as of
+use Rattle.audit_line.specs.declared.Audited.{Audited}
+use Rattle.audit_reply.specs.Audits.{Audits, no-net, no-placement, both, AuditSays}
 use Rattle.whole.specs.Whole.{NetHeld, PlacementHeld, Fits}
 
 pub same-net : {s buffer : List ℕ} {count : ℕ} → NetHeld buffer count → ReadOf s buffer count → netOf (take count buffer) ≡ netOf s
@@ -36,3 +38,11 @@ conveyed f c = record { said = c .said; right = f (c .said) (c .right); replies 
 
 pub fits : {A : Said → Type 0} {texts files : List ℕ} {r : Reply} → Conveys A texts files r → Fits texts files r
 fits c = (c .replies .text .within, c .replies .file .within)
+
+pub audited : {a b p q texts : List ℕ} {r : Audited} → netOf a ≡ netOf b → placementOf p ≡ placementOf q → AuditSays a p texts r → AuditSays b q texts r
+audited {a} {b} {p} {q} {r = r} e f c = record { text = c .text; is = all (c .is); shows = c .shows }
+  where
+    all : Audits a p (c .text) (r .found) → Audits b q (c .text) (r .found)
+    all (no-net x o t g) = no-net x (sym e ∙ o) t g
+    all (no-placement n x o u t g) = no-placement n x (sym e ∙ o) (sym f ∙ u) t g
+    all (both n es o u t) = both n es (sym e ∙ o) (sym f ∙ u) t

@@ -7,6 +7,8 @@ use Rattle.input.specs.Input.{ReadOf}
 use Rattle.reply.specs.declared.Reply.{Reply}
 use Rattle.reply.specs.Said.{Conveys}
 use Rattle.solve_reply.specs.Solves.{Solves}
+use Rattle.audit_line.specs.declared.Audited.{Audited}
+use Rattle.audit_reply.specs.Audits.{AuditSays}
 use Rattle.replies.specs.declared.Verb.{Verb}
 use Rattle.replies.specs.Replies.{SaysFiles, CarriesFiles}
 
@@ -19,6 +21,9 @@ SaysWhole v net count placement count2 texts files r = (s q : List ℕ) → Read
 abbrev pub CarriesWhole : List ℕ → ℕ → List ℕ → ℕ → List ℕ → ℕ → List ℕ → List ℕ → Reply → Type 0
 CarriesWhole first count second count2 placement count3 texts files r =
     (s t q : List ℕ) → ReadOf s first count → ReadOf t second count2 → ReadOf q placement count3 → Conveys (CarriesFiles s t q) texts files r
+
+abbrev pub AuditsWhole : List ℕ → ℕ → List ℕ → ℕ → List ℕ → Audited → Type 0
+AuditsWhole net count placement count2 texts r = (s q : List ℕ) → ReadOf s net count → ReadOf q placement count2 → AuditSays s q texts r
 
 -- ---- between the functions
 

@@ -2,7 +2,9 @@
 ghost use Prim.Native.Nat.{_≤_};
 ghost use lib.ListN.{length};
 ghost use Rattle.reply.specs.Said.{mostText, mostFile};
-ghost use Rattle.whole.specs.Whole.{NetHeld, PlacementHeld, SolvesWhole, SaysWhole, CarriesWhole, Fits};
+ghost use Rattle.audit_line.specs.Lines.{mostLine};
+ghost use Rattle.whole.specs.Whole.{NetHeld, PlacementHeld, SolvesWhole, SaysWhole, CarriesWhole, AuditsWhole, Fits};
+use audit_line::Audited;
 use replies::Verb;
 use reply::Reply;
 
@@ -51,4 +53,11 @@ pub fn carry(
         out,
         file,
     )
+}
+
+pub fn audit(net: &[u8], count: usize, placement: &[u8], count2: usize, out: &mut [u8]) -> Audited
+    requires { ⌜ NetHeld (now net) count × PlacementHeld (now placement) count2 × (mostLine ≤ length (now out)) ⌝ }
+    ensures { λ r. ⌜ AuditsWhole (now (net .entry)) count (now (placement .entry)) count2 (now (out .exit)) r × (r .bytes ≤ length (now (out .exit))) ⌝ }
+{
+    audit_reply::audit(&net[..count], &placement[..count2], out)
 }

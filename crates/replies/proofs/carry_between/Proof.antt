@@ -7,7 +7,7 @@ use borrow.Author.Needs.{needs}
 use Rattle.rules.specs.Net.{netAt}
 use Rattle.placement_file.proofs.Held.{placement-read, placement-refused}
 use Rattle.placement_file.specs.File.{wire}
-use Rattle.reply.specs.Said.{refusal}
+use Rattle.reply.specs.Said.{refusal, placement}
 use Rattle.carry_reply.specs.Carries.{carrySaid}
 use Rattle.replies.specs.Replies as say
 use Rattle.replies.proofs.carry_between.Statement.{statement}
@@ -32,7 +32,7 @@ returns : tie.Need-returns
 returns c = let e = (placement-read _ (c .before .before .before .before .before .before .before .before .before .before .before .before .before .before .before .read-placement .ensures) (c .before .before .before .before .before .before .before .before .before .before .before .found .given .1)) in record { said = carrySaid (netAt (c .before .before .before .before .before .before .before .before .before .before .before .before .before .before .before .before .before .before .before .before .before .before .before .before .before .before .before .before .before .before .before .args .limits) (c .before .before .before .before .before .before .before .before .before .before .before .before .before .before .before .before .before .before .before .before .before .before .before .before .before .before .before .before .before .before .before .args .parent) (c .before .before .before .before .before .before .before .before .before .before .before .before .before .before .before .before .before .before .before .before .before .before .before .before .before .before .before .before .before .before .before .args .wire) (c .before .before .before .before .before .before .before .before .before .before .before .before .before .before .before .before .before .before .before .before .before .before .before .before .before .before .before .before .before .before .before .args .kind) (c .before .before .before .before .before .before .before .before .before .before .before .before .before .before .before .before .before .before .before .before .before .before .before .before .before .before .before .before .before .before .before .args .pin) (c .before .before .before .before .before .before .before .before .before .before .before .before .before .before .before .before .before .before .before .before .before .before .before .before .before .before .before .before .before .before .before .args .polarity)) (netAt (c .before .before .before .before .before .before .before .before .before .before .before .before .before .before .before .before .before .before .before .before .before .before .before .before .before .before .before .before .before .before .before .args .limits2) (c .before .before .before .before .before .before .before .before .before .before .before .before .before .before .before .before .before .before .before .before .before .before .before .before .before .before .before .before .before .before .before .args .parent2) (c .before .before .before .before .before .before .before .before .before .before .before .before .before .before .before .before .before .before .before .before .before .before .before .before .before .before .before .before .before .before .before .args .wire2) (c .before .before .before .before .before .before .before .before .before .before .before .before .before .before .before .before .before .before .before .before .before .before .before .before .before .before .before .before .before .before .before .args .kind2) (c .before .before .before .before .before .before .before .before .before .before .before .before .before .before .before .before .before .before .before .before .before .before .before .before .before .before .before .before .before .before .before .args .pin2) (c .before .before .before .before .before .before .before .before .before .before .before .before .before .before .before .before .before .before .before .before .before .before .before .before .before .before .before .before .before .before .before .args .polarity2)) (take (c .before .before .before .before .before .before .before .before .before .before .before .found .given .0 .0) (c .before .before .before .before .before .before .before .before .before .before .before .before .before .before .before .read-placement .last .1 .0)) (take (c .before .before .before .before .before .before .before .before .before .before .before .found .given .0 .0) (c .before .before .before .before .before .before .before .before .before .before .before .before .before .before .before .read-placement .last .1 .1 .0)); right = say.OfPlacement.read (e .es) (e .is) (rw (e .wires, e .offsets) refl); replies = c .before .before .before .before .before .carry .ensures }
 
 returns-2 : tie.Need-returns-2
-returns-2 c = let r = c .before .before .before .before .before .before .found2 .given in record { said = refusal say.placement (r .0 .0); right = say.OfPlacement.unread (r .0 .0) (placement-refused _ (c .before .before .before .before .before .before .before .before .before .before .read-placement .ensures) (omega arith) (r .1)) refl; replies = c .before .before .refuse .ensures _ }
+returns-2 c = let r = c .before .before .before .before .before .before .found2 .given in record { said = refusal placement (r .0 .0); right = say.OfPlacement.unread (r .0 .0) (placement-refused _ (c .before .before .before .before .before .before .before .before .before .before .read-placement .ensures) (omega arith) (r .1)) refl; replies = c .before .before .refuse .ensures _ }
 
 pub carry-between-spec : {M : Type 1} → statement M
 carry-between-spec =

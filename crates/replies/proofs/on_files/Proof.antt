@@ -10,7 +10,7 @@ use borrow.Author.Needs.{needs}
 use Rattle.rules.specs.Net.{Net, net, unlimited}
 use Rattle.field.proofs.Numbers.{AreBytes}
 use Rattle.net_file.proofs.Held.{Holds, roomy, found, unread-says, holds}
-use Rattle.reply.specs.Said.{refusal}
+use Rattle.reply.specs.Said.{refusal, net as word}
 use Rattle.replies.specs.Replies as say
 use Rattle.replies.proofs.on_files.Statement.{statement}
 use Rattle.replies.proofs.on_files.Tie as tie
@@ -50,7 +50,7 @@ returns-2 : tie.Need-returns-2
 returns-2 c =
     let r = c .before .before .before .before .before .before .found2 .given in
     let a = c .before .before .before .before .before .before .before .before .before .before .before .before .before in
-    record { said = refusal say.net (r .0 .0); right = say.OfNet.unread (r .0 .0) (unread-says (r .0 .0) (found (bytes a) roomy (a .read-net .ensures)) (r .1)) refl; replies = c .before .before .refuse .ensures _ }
+    record { said = refusal word (r .0 .0); right = say.OfNet.unread (r .0 .0) (unread-says (r .0 .0) (found (bytes a) roomy (a .read-net .ensures)) (r .1)) refl; replies = c .before .before .refuse .ensures _ }
 
 pub on-files-spec : {M : Type 1} → statement M
 on-files-spec =

@@ -7,7 +7,7 @@ use denote.Ref.{now}
 use borrow.Author.Needs.{needs}
 use Rattle.placement_file.proofs.Held.{placement-read, placement-refused, few-entries}
 use Rattle.placement_file.specs.File.{wire, offset}
-use Rattle.reply.specs.Said.{refusal}
+use Rattle.reply.specs.Said.{refusal, placement}
 use Rattle.replies.specs.Replies as say
 use Rattle.replies.proofs.on_net.Statement.{statement}
 use Rattle.replies.proofs.on_net.Tie as tie
@@ -31,7 +31,7 @@ returns : tie.Need-returns
 returns c = let e = (placement-read _ (c .before .before .before .before .before .before .before .before .before .before .before .before .before .before .read-placement .ensures) (c .before .before .before .before .before .before .before .before .before .before .found .given .1)) in let s = c .before .before .before .before .on-columns .ensures in record { said = s .said; right = say.OfPlacement.read (e .es) (e .is) (rw (← e .wires, ← e .offsets) (s .right)); replies = s .replies }
 
 returns-2 : tie.Need-returns-2
-returns-2 c = let r = c .before .before .before .before .before .before .found2 .given in record { said = refusal say.placement (r .0 .0); right = say.OfPlacement.unread (r .0 .0) (placement-refused _ (c .before .before .before .before .before .before .before .before .before .before .read-placement .ensures) (omega arith) (r .1)) refl; replies = c .before .before .refuse .ensures _ }
+returns-2 c = let r = c .before .before .before .before .before .before .found2 .given in record { said = refusal placement (r .0 .0); right = say.OfPlacement.unread (r .0 .0) (placement-refused _ (c .before .before .before .before .before .before .before .before .before .before .read-placement .ensures) (omega arith) (r .1)) refl; replies = c .before .before .refuse .ensures _ }
 
 pub on-net-spec : {M : Type 1} → statement M
 on-net-spec =

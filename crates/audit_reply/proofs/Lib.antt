@@ -1,0 +1,2 @@
+pub mod Auditing
+pub mod Determined
