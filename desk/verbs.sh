@@ -9,6 +9,8 @@
 
 unset CDPATH
 exec {nothing}<>/dev/null
+input=open
+[ -e /dev/fd/0 ] || { input=closed && exec <&"$nothing"; }
 
 do_verb() {
     verb=$1
@@ -108,7 +110,7 @@ open_files() {
 
 open_file() {
     if [ "$1" = - ]; then
-        [ -e /dev/fd/0 ] || fail "standard input is closed"
+        [ "$input" = open ] || fail "standard input is closed"
         exec {opened}<&0
     else
         [ -e "$1" ] || fail "$(shown "$1"): no such file"
@@ -133,7 +135,7 @@ keep_bytes() {
     for i in "${!files[@]}"; do
         is_at_hand "${files[i]}" && continue
         at[i]=$room/$i
-        head -c 65536 <&"${inputs[i]}" 2>/dev/null >"${at[i]}" || fail "$(shown "${files[i]}") could not be read to its end"
+        beside head -c 65536 <&"${inputs[i]}" 2>/dev/null >"${at[i]}" || fail "$(shown "${files[i]}") could not be read to its end"
     done
 }
 
@@ -197,11 +199,19 @@ ask() {
 # Takes in what comes from the program until it ends.
 listen() {
     running=$!
-    said=$(cat <&"$heard" && echo .)
-    said=${said%.}
+    IFS= read -r -d '' -u "$heard" said
     wait "$running"
     result=$? running=''
     exec {heard}<&-
+}
+
+# Runs a command beside this shell. A signal ends both at once: the shell waits by `wait`, as in `listen`, and not for a command of its own.
+beside() {
+    "$@" <&0 &
+    running=$!
+    wait "$running" 2>/dev/null
+    result=$? running=''
+    return "$result"
 }
 
 no_answer() {
@@ -233,7 +243,7 @@ have_python() { command -v python3 >/dev/null; }
 
 need_python() { have_python || fail "$verb takes python3, and there is none on the PATH"; }
 
-tool() { python3 -BEs "$root/desk/$1" "${@:2}"; }
+tool() { beside python3 -BEs "$root/desk/$1" "${@:2}"; }
 
 # One line on standard error after a refusal. It runs in a shell of its own: whatever goes wrong here, the refusal stands.
 say_words() {
