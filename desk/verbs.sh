@@ -216,7 +216,6 @@ beside() {
 
 no_answer() {
     [ "$result" -ne 0 ] || exit 2 # it has said on standard error why there is no answer
-    [ ! -t 2 ] || printf '\r\033[K' >&2
     fail "the program did not run to its end (status $result)"
 }
 
@@ -356,42 +355,44 @@ tool_failed() {
 
 audit() {
     local names missed='' total=() out heard
-    prepare
-    if [ "${files[0]}" = - ]; then
+    folder=${files[0]}
+    if [ "$folder" = - ]; then
         open_file -
         names=$opened folder=.
+        prepare
     else
-        folder=${files[0]}
+        judge_folder
+        prepare
         list_records
     fi
     exec {out}>&1
     exec {heard}< <(cd -- "$folder" && exec "${runner[@]}" "$target/bin/desk" audit "${total[@]}" <&"$names" 3>&1 >&"$out")
     listen
+    [ ${#total[@]} -eq 0 ] || printf '\r\033[K' >&2
     [[ $said == [01] ]] || no_answer
     [ -z "$missed" ] || fail "$missed"
     leave "$said"
 }
 
-# The net files below the folder in the order of their bytes, a 0 byte after each: open as `names`, and how many in `total` where the
-# program is to show how far it is.
-list_records() {
-    local place why
+# A pipe makes its reader wait for whoever writes, so an audit that met one could take for ever.
+judge_folder() {
+    local place found
     place=$(shown "$folder")
     [ -e "$folder" ] || fail "$place: no such folder"
     [ -d "$folder" ] || fail "$place is no folder"
     { [ -r "$folder" ] && [ -x "$folder" ]; } || fail "$place may not be read"
-    make_room
-    refuse_pipes
-    why=$(cd -- "$folder" && find . -name '*.net' ! -xtype d -printf '%P\0' 2>&1 >"$room/found") ||
-        missed="not all below $place could be listed, and what was not is not in the tally: $(shown "${why%%$'\n'*}")"
-    LC_ALL=C sort -z <"$room/found" >"$room/sorted" 2>/dev/null || fail "the list of records could not be written to $room"
-    [ ! -t 2 ] || total=("$(tr -cd '\0' <"$room/sorted" | wc -c)")
-    exec {names}<"$room/sorted"
-}
-
-# A pipe makes its reader wait for whoever writes, so an audit that met one could take for ever.
-refuse_pipes() {
-    local found
     found=$(cd -- "$folder" && find . -xtype p \( -name '*.net' -o -name '*.place' \) -printf '%P.' -quit 2>/dev/null)
     [ -z "$found" ] || fail "$(shown "$folder/${found%.}") is a pipe, and no audit ends that waits for one"
+}
+
+# The net files below the folder in the order of their bytes, a 0 byte after each: open as `names`. How many they are goes to `total`
+# where a person waits for a file or a pipe to be filled, and is to see how far the program is.
+list_records() {
+    local why
+    make_room
+    why=$(cd -- "$folder" && find . -name '*.net' ! -type d -printf '%P\0' 2>&1 >"$room/found") ||
+        missed="not all below $(shown "$folder") could be listed, and what was not is not in the tally: $(shown "${why%%$'\n'*}")"
+    LC_ALL=C sort -z <"$room/found" >"$room/sorted" 2>/dev/null || fail "the list of records could not be written to $room"
+    if [ -t 2 ] && [ ! -t 1 ]; then total=("$(tr -cd '\0' <"$room/sorted" | wc -c)"); fi
+    exec {names}<"$room/sorted"
 }
