@@ -215,8 +215,9 @@ beside() {
 }
 
 no_answer() {
-    [ "$result" -ne 0 ] || exit 2 # it has said on standard error why there is no answer
-    fail "the program did not run to its end (status $result)"
+    [ "$result" -eq 0 ] || fail "the program did not run to its end (status $result)"
+    [ -z "$said" ] || fail "the program gave no whole answer"
+    exit 2 # it has said on standard error why there is none
 }
 
 # solve, check, loads, carry, finish

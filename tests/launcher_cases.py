@@ -1,67 +1,20 @@
 """launcher_cases.py: ./mustorgyel where something is wrong. Run by tests/program.
 
 Status 0 is an answer, 1 a refusal, 2 anything else, with one line on standard error; nothing hangs. The cases that build run in a
-folder of their own, with this launcher and two small crates for the Rattle kit to prove.
+folder of their own, with this launcher and a few small crates for the Rattle kit to prove. desk_cases.py is of the verbs.
 """
-import contextlib
 import os
 import pathlib
 import re
 import shutil
 import signal
 import socket
-import struct
 import subprocess
-import sys
 import tempfile
 import time
 
-ROOT = pathlib.Path(__file__).resolve().parent.parent
-LAUNCHER = ROOT / "mustorgyel"
-EXAMPLE = ROOT / "examples/wire-14.net"
-PRINTED = b"least 1\nwire 1 offset 6 drives 10\nsource drives 10\n"
-KIT = pathlib.Path(shutil.which("rt")).resolve().parent.parent
-HANG = 120  # seconds; a build of the small crates takes ten
-wrong = 0
-asked = 0
-
-
-def expect(holds, name, done):
-    global asked, wrong
-    asked += 1
-    if not holds:
-        wrong += 1
-        print(f"WRONG: {name}: {done}")
-
-
-def ask(*words, folder=ROOT, closed=(), env=None, stdin=subprocess.DEVNULL, stdout=subprocess.PIPE, **more):
-    """The launcher's status, standard output and standard error; a status of None is one that hangs."""
-    process = subprocess.Popen([folder / "mustorgyel", *words], stdin=stdin, stdout=stdout, stderr=subprocess.PIPE, start_new_session=True,
-                               preexec_fn=lambda: [os.close(number) for number in closed], env={**os.environ, **(env or {})}, **more)
-    try:
-        out, err = process.communicate(timeout=HANG)
-        return process.returncode, out or b"", err.decode()
-    except subprocess.TimeoutExpired:
-        os.killpg(process.pid, signal.SIGKILL)
-        process.communicate()
-        return None, b"", "it hangs"
-
-
-def answers(name, done, printed=PRINTED, status=0):
-    expect(done[:2] == (status, printed), name, done)
-
-
-def says(name, done, *words):
-    """Status 2, no answer, and one line that has these words."""
-    status, out, err = done
-    one = re.fullmatch("mustorgyel: [^\n]+\n", err)
-    expect(status == 2 and not out and one and all(word in err for word in words), name, done)
-
-
-def ends(name, done, *words):
-    """The same after a build, whose lines come first."""
-    status, out, err = done
-    says(name, (status, out, "".join(err.splitlines(keepends=True)[-1:])), *words)
+import launcher_asks
+from launcher_asks import EXAMPLE, HANG, KIT, LAUNCHER, ROOT, answers, ask, broken_connection, ends, expect, says, wait_for_program
 
 
 def standard_output():
@@ -106,19 +59,6 @@ def failing_reads():
         answers("a connection that breaks after the bytes that decide", ask(stdin=connection), b"refused 6 place 29\n", 1)
 
 
-def broken_connection(data):
-    """A connection that delivered some bytes and was then reset."""
-    with socket.create_server(("127.0.0.1", 0)) as server:
-        ours = socket.create_connection(server.getsockname())
-        theirs = server.accept()[0]
-    theirs.sendall(data)
-    theirs.setsockopt(socket.SOL_SOCKET, socket.SO_LINGER, struct.pack("ii", 1, 0))
-    while len(ours.recv(len(data), socket.MSG_PEEK)) < len(data):
-        time.sleep(0.01)
-    theirs.close()
-    return ours
-
-
 def file_names():
     with tempfile.TemporaryDirectory() as room:
         room = pathlib.Path(room)
@@ -142,7 +82,7 @@ def signals():
     for name, whom in (("the launcher is ended", "mustorgyel"), ("the program is ended", "target/bin/mustorgyel")):
         read, write = os.pipe()
         process = subprocess.Popen([LAUNCHER], stdin=read, stdout=subprocess.PIPE, stderr=subprocess.PIPE)
-        program = wait_for_program(process.pid)
+        program = wait_for_program(process.pid, ROOT / "target/bin/mustorgyel")
         os.kill(process.pid if whom == "mustorgyel" else program, signal.SIGTERM)
         os.close(read)
         os.close(write)
@@ -154,26 +94,6 @@ def signals():
             says(name, done, "status 143")
 
 
-def wait_for_program(launcher):
-    """The number of the process that runs the program for this launcher."""
-    until = time.time() + HANG
-    while time.time() < until:
-        for folder in pathlib.Path("/proc").glob("[0-9]*"):
-            with contextlib.suppress(OSError):
-                words = (folder / "cmdline").read_bytes().split(b"\0")
-                if words[-2:] == [os.fsencode(ROOT / "target/bin/mustorgyel"), b""] and launcher in ancestors(folder):
-                    return int(folder.name)
-        time.sleep(0.05)
-    sys.exit("the program does not start")
-
-
-def ancestors(folder):
-    while folder.name != "0":
-        parent = int((folder / "stat").read_text().rpartition(")")[2].split()[1])
-        yield parent
-        folder = pathlib.Path("/proc") / str(parent)
-
-
 def kit_and_version():
     says("a wrong RATTLE_HOME", ask(EXAMPLE, env={"RATTLE_HOME": "/nowhere"}), "RATTLE_HOME", "/nowhere")
     says("a RATTLE_HOME that is no kit", ask("--version", env={"RATTLE_HOME": "/tmp"}), "RATTLE_HOME", "/tmp")
@@ -181,7 +101,8 @@ def kit_and_version():
     kit = subprocess.run(["rt", "version"], capture_output=True, check=True).stdout
     status, out, _ = ask("--version", env={"GIT_DIR": "/nowhere"})
     first = out.decode().split("\n")[0]
-    expect(status == 0 and out.endswith(kit) and len(out.splitlines()) == 2, "--version and the kit", out)
+    kit_line, proofs = out.splitlines(keepends=True)[1:]
+    expect(status == 0 and kit_line == kit and proofs.startswith(b"proofs: checked here"), "--version, the kit and the proofs", out)
     git = subprocess.run(["git", "-C", ROOT, "rev-parse", "HEAD"], capture_output=True, text=True, check=False)
     if git.returncode == 0:
         changed = subprocess.run(["git", "-C", ROOT, "diff", "--quiet", "HEAD"], check=False).returncode
@@ -195,17 +116,20 @@ def help_page():
 
 
 class Small:
-    """A folder with this launcher, and a program that prints one text, over one crate; another crate is no part of it."""
+    """A folder with this launcher, and two programs that print one text each, over one crate; another crate is no part of them."""
     REFUSED = "refused 1 place 0\n"
+    LEGAL = "legal 0\nsource drives 7\n"
 
     def __init__(self, folder):
         self.folder = folder
         self.target = folder / "target"
         shutil.copy(LAUNCHER, folder)
-        (folder / "crates.txt").write_text("# small\nother: base # not the program's\nmustorgyel: base io libc\nbase:\n")
+        shutil.copytree(ROOT / "desk", folder / "desk")
+        (folder / "crates.txt").write_text("# small\nother: base # not the programs'\nmustorgyel: base io libc\nbase:\ndesk: base io libc\n")
         for crate in ("base", "other"):
             self.write(crate, "lib.rt", "pub fn seven() -> usize {\n    7\n}\n")
         self.prints(self.REFUSED)
+        self.desk_prints(self.LEGAL, "0")
 
     def write(self, crate, name, text):
         source = self.folder / "crates" / crate / "src" / name
@@ -218,15 +142,25 @@ class Small:
         self.write("mustorgyel", "main.rt", f'fn main() {{\n    let text = b"{quoted}";\n    io::write_all(libc::STDOUT_FILENO, text);\n}}\n')
         (self.folder / "crates/mustorgyel/stdout").write_text(text)
 
+    def desk_prints(self, text, status):
+        quoted = text.replace("\n", "\\n")
+        self.write("desk", "main.rt", f'fn main() {{\n    let text = b"{quoted}";\n    io::write_all(libc::STDOUT_FILENO, text);\n'
+                                      f'    let status = b"{status}";\n    io::write_all(3, status);\n}}\n')
+        (self.folder / "crates/desk/stdout").write_text(text)
+
     def ask(self, *words, **more):
         return ask(*words, folder=self.folder, cwd="/", **more)
+
+    def check(self):
+        """A verb on two files that are there."""
+        return self.ask("check", EXAMPLE, EXAMPLE)
 
     def proved(self, done):
         """The crates that standard error showed, in order, each with its number."""
         return re.findall(r"^proving (\d of \d: \w+) \(\d+ s\)$", done[2], re.M)
 
 
-BOTH = ["1 of 2: base", "2 of 2: mustorgyel"]
+ALL = ["1 of 3: base", "2 of 3: mustorgyel", "3 of 3: desk"]
 
 
 def builds(small):
@@ -238,24 +172,31 @@ def builds(small):
     first = first.returncode, out, err.decode()
     for done in (first, second):
         answers("two builds at once", done, small.REFUSED.encode(), 1)
-    expect(sorted([small.proved(first), small.proved(second)]) == [[], BOTH], "each crate is shown once", (first, second))
+    expect(sorted([small.proved(first), small.proved(second)]) == [[], ALL], "each crate is shown once", (first, second))
     done = small.ask()
     expect(done == (1, small.REFUSED.encode(), ""), "built, and nothing to say", done)
+    answers("the other program is built too", small.check(), small.LEGAL.encode())
     version = small.ask("--version")
     expect(version[0] == 0 and b"no known commit" in version[1], "--version without git", version)
+    expect(b"proofs: checked here" in version[1], "--version of what was proved", version)
 
 
 def rebuilds(small):
-    (small.target / "bin/mustorgyel").unlink()
-    done = small.ask()
-    expect(done[0] == 1 and small.proved(done) == BOTH[1:], "a deleted program: nothing below it is proved again", done)
+    for number, name in ((1, "mustorgyel"), (2, "desk")):
+        (small.target / "bin" / name).unlink()
+        version = small.ask("--version")
+        expect(b"proofs: not checked here" in version[1], "--version of what was not built", version)
+        done = small.ask()
+        expect(done[0] == 1 and small.proved(done) == ALL[number:number + 1], "a deleted program: nothing else is proved again", done)
     small.write("other", "lib.rt", "pub fn eight() -> usize {\n    8\n}\n")
     done = small.ask()
     expect(done == (1, small.REFUSED.encode(), ""), "a change in another crate", done)
     small.prints("least 0\nsource drives 7\n")
+    version = small.ask("--version")
+    expect(b"proofs: not checked here" in version[1], "--version of changed sources", version)
     done = small.ask()
     answers("a changed program", done, b"least 0\nsource drives 7\n")
-    expect(small.proved(done) == BOTH[1:], "a changed program is proved", done)
+    expect(small.proved(done) == ALL[1:2], "a changed program is proved", done)
     # Somebody builds other sources by `rt` and takes them back: the program in target/ is not that of the sources.
     small.prints(small.REFUSED)
     subprocess.run(["rt", "check", "mustorgyel"], cwd=small.folder, capture_output=True, check=True)
@@ -285,8 +226,14 @@ def no_answers(small):
     for text in ("least 0\n", "refused 1 place 0"):
         small.prints(text)
         ends(f"a program that prints {text!r}", small.ask(), "no whole answer")
+    for text, status in ((small.LEGAL, "2"), ("legal 1", "")):
+        small.desk_prints(text, status)
+        ends(f"a desk that prints {text!r} and {status!r}", small.check(), "no whole answer")
     small.write("base", "lib.rt", "pub fn seven(b: &[u8]) -> u8 {\n    b[7]\n}\n")
-    ends("a crate that is not proved", small.ask(), "base NOT PROVED")
+    for done in (small.ask(), small.check()):
+        ends("a crate that is not proved", done, "base NOT PROVED")
+    (small.folder / "desk/verbs.sh").unlink()
+    says("a folder that is not whole", small.check(), "desk/verbs.sh")
 
 
 def main():
@@ -297,8 +244,7 @@ def main():
         small = Small(pathlib.Path(folder))
         for cases in (builds, rebuilds, no_building, no_answers):
             cases(small)
-    print(f"the launcher: {asked} questions, {wrong} wrong")
-    sys.exit(wrong > 0)
+    launcher_asks.end("the launcher")
 
 
 main()
