@@ -110,7 +110,7 @@ open_files() {
 
 open_file() {
     if [ "$1" = - ]; then
-        [ "$input" = open ] || fail "standard input is closed"
+        need_input
         exec {opened}<&0
     else
         [ -e "$1" ] || fail "$(shown "$1"): no such file"
@@ -119,6 +119,8 @@ open_file() {
     fi
     [ ! -d "/dev/fd/$opened" ] || fail "$(shown "$1") is a folder, and no file"
 }
+
+need_input() { [ "$input" = open ] || fail "standard input is closed"; }
 
 is_at_hand() { [ "$1" != - ] && [ -f "$1" ]; }
 
@@ -327,16 +329,24 @@ picture() {
     judge_files
     [[ $line =~ ^(least|legal|refused [89]|refused 1[12])\  ]] || end 1 "$line"
     begin_file
-    tool picture "${files[0]}" "${at[0]}" "$room/text" "$line" >&"$outlet" || tool_failed $?
+    draw
     [ "$verdict" = 0 ] || print "$line"
     put_in_place
     leave "$verdict"
+}
+
+draw() {
+    local why=''
+    tool picture "${files[0]}" "${at[0]}" "$room/text" "$line" >&"$outlet" 2>"$room/why" && return
+    IFS= read -r why <"$room/why"
+    fail "$(shown "$output") was not made: $(shown "${why:-the tool ended with status $result}")"
 }
 
 # ------------------------------------------------------------ text, file
 
 twin() {
     need_python
+    [ "${files[0]}" != - ] || need_input
     outlet=1
     if [ -n "$output" ]; then
         judge_target
