@@ -70,9 +70,9 @@ judge_options() {
 }
 
 count_files() { # LEAST [MOST]
-    local form
+    local form=''
     if [ ${#files[@]} -lt "$1" ] || [ ${#files[@]} -gt "${2:-$1}" ]; then
-        read -r form <"$root/desk/help/$verb.txt"
+        { read -r form <"$root/desk/help/$verb.txt"; } 2>/dev/null
         fail "$verb takes another number of files: $form"
     fi
 }
@@ -125,7 +125,7 @@ need_input() { [ "$input" = open ] || fail "standard input is closed"; }
 is_at_hand() { [ "$1" != - ] && [ -f "$1" ]; }
 
 make_room() {
-    [ -n "$room" ] || room=$(mktemp -d 2>/dev/null) || fail "no folder can be made in ${TMPDIR:-/tmp} for what is read twice"
+    [ -n "$room" ] || room=$(mktemp -d 2>/dev/null) || fail "no folder can be made in ${TMPDIR:-/tmp}, where $verb keeps what it needs while it runs"
 }
 
 # For who reads files twice: what is no regular file is copied first, as far as any reader looks. `at` gets the names of the bytes.
@@ -202,9 +202,9 @@ ask() {
 listen() {
     running=$!
     IFS= read -r -d '' -u "$heard" said
+    exec {heard}<&-
     wait "$running"
     result=$? running=''
-    exec {heard}<&-
 }
 
 # Runs a command beside this shell. A signal ends both at once: the shell waits by `wait`, as in `listen`, and not for a command of its own.
@@ -249,31 +249,24 @@ tool() { beside python3 -BEs "$root/desk/$1" "${@:2}"; }
 
 # One line on standard error after a refusal. It runs in a shell of its own: whatever goes wrong here, the refusal stands.
 say_words() {
-    local line=$text words=''
-    made='' room=''
+    local line=$text words='' loads='' pairs=() name
+    made=''
     trap tidy EXIT
-    ! have_python || words=$(explain_refusal 2>&1 >/dev/null)
+    for name in "${files[@]}"; do
+        is_at_hand "$name" && pairs+=("$name" "$name") || pairs+=("$name" '')
+    done
+    if have_python; then
+        [[ $line != 'refused 11 '* ]] || list_loads
+        words=$(tool explain words "$verb" "$line" "$loads" "${pairs[@]}" 2>&1 >/dev/null)
+    fi
     [ -n "$words" ] || words="mustorgyel: $line: $(meaning "$line")"
     printf '%s\n' "$words" >&2
 }
 
-explain_refusal() {
-    local name pairs=() loads=''
-    for name in "${files[@]}"; do
-        is_at_hand "$name" && pairs+=("$name" "$name") || pairs+=("$name" '')
-    done
-    if [[ $line == 'refused 11 '* ]] && is_at_hand "${files[0]}" && is_at_hand "${files[-1]}"; then
-        make_room
-        list_loads "${files[0]}" "${files[-1]}" && loads=$room/loads
-    fi
-    tool explain words "$verb" "$line" "$loads" "${pairs[@]}"
-}
-
-# What `loads` prints of a net and a placement, in the file $room/loads.
+# What `loads` prints of the net and the placement, in a file, where their bytes can be read again.
 list_loads() {
-    open_files "$@"
-    ask loads
-    printf '%s\n' "$text" >"$room/loads"
+    is_at_hand "${files[0]}" && is_at_hand "${files[-1]}" && room=$(mktemp -d 2>/dev/null) || return
+    (open_files "${files[0]}" "${files[-1]}" && ask loads && printf '%s\n' "$text" >"$room/loads") 2>/dev/null && loads=$room/loads
 }
 
 # The meaning of a refusal's number, from the table of the help.
@@ -337,7 +330,7 @@ picture() {
 
 draw() {
     local why=''
-    tool picture "${files[0]}" "${at[0]}" "$room/text" "$line" >&"$outlet" 2>"$room/why" && return
+    tool picture "$(shown "${files[0]}")" "${at[0]}" "$room/text" "$line" 1>&"$outlet" 2>"$room/why" && return
     IFS= read -r why <"$room/why"
     fail "$(shown "$output") was not made: $(shown "${why:-the tool ended with status $result}")"
 }

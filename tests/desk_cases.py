@@ -577,10 +577,20 @@ def picture_names(folder):
 
 
 def main():
+    # what the launcher makes for itself is there, and gone at the end
+    with tempfile.TemporaryDirectory() as own:
+        tempfile.tempdir = tempfile.gettempdir()
+        os.chmod(own, 0o1777)
+        os.environ["TMPDIR"] = own
+        ask_all()
+        expect(not os.listdir(own), "nothing is left in TMPDIR", os.listdir(own))
+    launcher_asks.end("the verbs")
+
+
+def ask_all():
     for cases in (standard_output, standard_input, failing_reads, descriptors, wrong_words, file_names, written_files, refused_files, odd_targets, own_input,
                   modes, full_disks, read_only_folders, signals, killed, late_comers, words, pages, audits, explained, twins, pictures):
         cases()
-    launcher_asks.end("the verbs")
 
 
 main()
