@@ -5,7 +5,7 @@
 #   7         with the word -o, where the placement file goes
 #   3         where it writes one byte after all else was written, the status: 0 an answer, 1 a refusal
 # shellcheck shell=bash
-# shellcheck disable=SC2154 # runner, target and root are the launcher's
+# shellcheck disable=SC2034,SC2154 # ended is read by the launcher's trap; runner, target and root are the launcher's
 
 unset CDPATH
 exec {nothing}<>/dev/null
@@ -13,9 +13,10 @@ input=open
 [ -e /dev/fd/0 ] || { input=closed && exec <&"$nothing"; }
 
 do_verb() {
+    # without a trap bash lets an INT that comes to it alone go by while a command runs
+    trap 'trap - INT && kill -INT $$' INT
     verb=$1
     take_words "${@:2}"
-    trap '' PIPE XFSZ # who cannot write says so, and is not ended by a signal
     case $verb in
     solve) count_files 1 && tell ;;
     check | loads | finish) count_files 2 && tell ;;
@@ -124,14 +125,20 @@ need_input() { [ "$input" = open ] || fail "standard input is closed"; }
 
 is_at_hand() { [ "$1" != - ] && [ -f "$1" ]; }
 
+# A folder for what is needed while this runs. It has its name before it is made, so that no signal finds it without one.
 make_room() {
-    [ -n "$room" ] || room=$(mktemp -d 2>/dev/null) || fail "no folder can be made in ${TMPDIR:-/tmp}, where $verb keeps what it needs while it runs"
+    room=${TMPDIR:-/tmp}/mustorgyel.$$.$RANDOM$RANDOM
+    mkdir -m 700 -- "$room" 2>/dev/null && return
+    room=''
+    return 1
 }
+
+need_room() { make_room || fail "no folder can be made in ${TMPDIR:-/tmp}, where $verb keeps what it needs while it runs"; }
 
 # For who reads files twice: what is no regular file is copied first, as far as any reader looks. `at` gets the names of the bytes.
 keep_bytes() {
     local i
-    make_room
+    need_room
     open_files "${files[@]}"
     at=("${files[@]}")
     for i in "${!files[@]}"; do
@@ -188,6 +195,12 @@ put_in_place() {
 
 # ------------------------------------------------------------ the program
 
+# Whoever cannot write says so from here on, and is not ended by a signal.
+get_ready() {
+    prepare
+    trap '' PIPE XFSZ
+}
+
 # Runs the program on the open files. `text` gets what it prints and `status` the byte behind it. No line begins with such a byte.
 ask() {
     local heard
@@ -200,19 +213,17 @@ ask() {
 
 # Takes in what comes from the program until it ends.
 listen() {
-    running=$!
     IFS= read -r -d '' -u "$heard" said
     exec {heard}<&-
-    wait "$running"
-    result=$? running=''
+    wait "$!"
+    result=$? ended=$!
 }
 
 # Runs a command beside this shell. A signal ends both at once: the shell waits by `wait`, as in `listen`, and not for a command of its own.
 beside() {
     "$@" <&0 &
-    running=$!
-    wait "$running" 2>/dev/null
-    result=$? running=''
+    wait "$!" 2>/dev/null
+    result=$? ended=$!
     return "$result"
 }
 
@@ -226,7 +237,7 @@ no_answer() {
 tell() {
     [ -z "$output" ] || judge_target
     open_files "${files[@]}"
-    prepare
+    get_ready
     [ -z "$output" ] || begin_file
     ask "$verb" ${output:+-o}
     print "$text"
@@ -265,7 +276,7 @@ say_words() {
 
 # What `loads` prints of the net and the placement, in a file, where their bytes can be read again.
 list_loads() {
-    is_at_hand "${files[0]}" && is_at_hand "${files[-1]}" && room=$(mktemp -d 2>/dev/null) || return
+    is_at_hand "${files[0]}" && is_at_hand "${files[-1]}" && make_room || return
     (open_files "${files[0]}" "${files[-1]}" && ask loads && printf '%s\n' "$text" >"$room/loads") 2>/dev/null && loads=$room/loads
 }
 
@@ -300,7 +311,7 @@ explain() {
     local loads='' pairs=() page i
     need_python
     keep_bytes
-    prepare
+    get_ready
     judge_files
     [ "$status" = 1 ] || loads=$room/text
     for i in "${!files[@]}"; do
@@ -318,7 +329,7 @@ picture() {
     [[ $output == *.svg ]] || fail "the picture's name ends in .svg, and $(shown "$output") does not"
     judge_target
     keep_bytes
-    prepare
+    get_ready
     judge_files
     [[ $line =~ ^(least|legal|refused [89]|refused 1[12])\  ]] || end 1 "$line"
     begin_file
@@ -339,6 +350,7 @@ draw() {
 
 twin() {
     need_python
+    trap '' XFSZ
     [ "${files[0]}" != - ] || need_input
     outlet=1
     if [ -n "$output" ]; then
@@ -363,10 +375,10 @@ audit() {
     if [ "$folder" = - ]; then
         open_file -
         names=$opened folder=.
-        prepare
+        get_ready
     else
         judge_folder
-        prepare
+        get_ready
         list_records
     fi
     exec {out}>&1
@@ -393,7 +405,7 @@ judge_folder() {
 # where a person waits for a file or a pipe to be filled, and is to see how far the program is.
 list_records() {
     local why
-    make_room
+    need_room
     why=$(cd -- "$folder" && find . -name '*.net' ! -type d -printf '%P\0' 2>&1 >"$room/found") ||
         missed="not all below $(shown "$folder") could be listed, and what was not is not in the tally: $(shown "${why%%$'\n'*}")"
     LC_ALL=C sort -z <"$room/found" >"$room/sorted" 2>/dev/null || fail "the list of records could not be written to $room"
