@@ -268,7 +268,7 @@ say_words() {
     done
     if have_python; then
         [[ $line != 'refused 11 '* ]] || list_loads
-        words=$(tool explain words "$verb" "$line" "$loads" "${pairs[@]}" 2>&1 >/dev/null)
+        words=$(tool explain words "$verb" "$line" "$loads" "${pairs[@]}" 2>&1 >/dev/null) || words=''
     fi
     [ -n "$words" ] || words="mustorgyel: $line: $(meaning "$line")"
     printf '%s\n' "$words" >&2
@@ -397,7 +397,7 @@ judge_folder() {
     [ -e "$folder" ] || fail "$place: no such folder"
     [ -d "$folder" ] || fail "$place is no folder"
     { [ -r "$folder" ] && [ -x "$folder" ]; } || fail "$place may not be read"
-    found=$(cd -- "$folder" && find . -xtype p \( -name '*.net' -o -name '*.place' \) -printf '%P.' -quit 2>/dev/null)
+    found=$(cd -- "$folder" && LC_ALL=C find . -xtype p \( -name '*.net' -o -name '*.place' \) -printf '%P.' -quit 2>/dev/null)
     [ -z "$found" ] || fail "$(shown "$folder/${found%.}") is a pipe, and no audit ends that waits for one"
 }
 
@@ -406,7 +406,7 @@ judge_folder() {
 list_records() {
     local why
     need_room
-    why=$(cd -- "$folder" && find . -name '*.net' ! -type d -printf '%P\0' 2>&1 >"$room/found") ||
+    why=$(cd -- "$folder" && LC_ALL=C find . -name '*.net' ! -type d -printf '%P\0' 2>&1 >"$room/found") ||
         missed="not all below $(shown "$folder") could be listed, and what was not is not in the tally: $(shown "${why%%$'\n'*}")"
     LC_ALL=C sort -z <"$room/found" >"$room/sorted" 2>/dev/null || fail "the list of records could not be written to $room"
     if [ -t 2 ] && [ ! -t 1 ]; then total=("$(tr -cd '\0' <"$room/sorted" | wc -c)"); fi
