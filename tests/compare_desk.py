@@ -330,15 +330,19 @@ def difference(said, right):
 
 
 def status_cases():
-    """Every record is legal; there is none."""
+    """Shelves of one kind of record, and an empty one: the status is 0 where every record is legal."""
+    net_file = ref.net_bytes(wire(14))
+    shelves = ((None, None, None, 0), (b"least", on_one_wire(6), b"legal 1 least 1", 0), (b"legal", on_one_wire(6, 6), b"legal 2 least 1", 0),
+               (b"refused", on_one_wire(7), b"refused 11 place 0", 1), (b"unread", None, b"no placement file", 1))
     faults = []
-    with tempfile.TemporaryDirectory() as folder:
-        shelf = Shelf(folder)
-        for text, status in ((due.tally([]), 0), (b"good.net: legal 1 least 1\n" + due.tally(["least"]), 0)):
-            said = launcher_audit([folder])
-            if said != desk.Said(text, b"", status, b""):
-                faults.append(f"audit: {said}")
-            shelf.put_record(b"good", *files_of(wire(14), on_one_wire(6)))
+    for name, placement, said, status in shelves:
+        with tempfile.TemporaryDirectory() as folder:
+            if name:
+                Shelf(folder).put_record(name, net_file, placement and ref.placement_bytes(placement))
+            text = (name + b".net: " + said + b"\n" + due.tally([name.decode()])) if name else due.tally([])
+            found = launcher_audit([folder])
+            if found != desk.Said(text, b"", status, b""):
+                faults.append(f"audit of one record: {found}")
     return faults
 
 
