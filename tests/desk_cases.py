@@ -483,9 +483,10 @@ def audits():
     with room() as folder:
         for name in ("-dash", "new\nline", "two words"):
             (folder / name).mkdir()
+            (folder / "other" / name).mkdir(parents=True)
             shutil.copy(EXAMPLE, folder / name / "x.net")
             line = b"x.net: no placement file\nrecords 1 least 0 legal 0 refused 0 unread 1\n"
-            quiet(f"audit of the folder {name!r}", ask("audit", "--", name, cwd=folder, env={"CDPATH": "/tmp"}), line, 1)
+            quiet(f"audit of the folder {name!r}", ask("audit", "--", name, cwd=folder, env={"CDPATH": str(folder / "other")}), line, 1)
         os.mkfifo(folder / "two words/x.place")
         says("a pipe for a placement file", ask("audit", folder), "two words/x.place", "pipe")
         os.mkdir(folder / "empty")
