@@ -11,7 +11,7 @@ RULES = (ROOT / "docs/RULES.md").read_text()
 DEFINITIONS = (ROOT / "docs/DEFINITIONS.md").read_text()
 PARAGRAPH = r"\d+\.\d+"
 
-# The calls that users make, and the program's answer: what their contracts speak of is to be believed.
+# The calls that users make, and what the programs answer: what their contracts speak of is to be believed.
 CALLS = {
     "net": "judge number place",
     "net_reader": "read_net",
@@ -27,6 +27,9 @@ CALLS = {
     "field_reader": "read_field read_due",
     "field_writer": "write_field size",
     "mustorgyel": "answer_input",
+    "whole": "solve on_files carry audit",
+    "audit_line": "missing_line",
+    "tally": "count tally_line status",
 }
 
 
@@ -93,7 +96,7 @@ def unmapped():
     rows = re.findall(rf"^\| ({PARAGRAPH}[^|]*) \|", DEFINITIONS, re.M)
     mapped = {name for row in rows for name in re.findall(PARAGRAPH, row)}
     for name in paragraphs():
-        if name not in mapped and int(name.split(".")[0]) <= 8:
+        if name not in mapped and int(name.split(".")[0]) not in (9, 10):
             yield f"docs/DEFINITIONS.md: {name} is not mapped"
 
 

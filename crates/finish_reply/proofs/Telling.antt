@@ -24,7 +24,8 @@ use Rattle.finish.proofs.Judging.{half-sound}
 use Rattle.answer.specs.Text.{countedText}
 use Rattle.reply.specs.declared.Reply.{Reply}
 use Rattle.reply.specs.Said.{Conveys, Said, answered, refusal, Replies}
-use Rattle.finish_reply.specs.Finishes.{addedWord, fileOf, FinishesBy, Finishes, Completed, Tells}
+use Rattle.finish_reply.specs.Finishes.{addedWord, fileOf, FinishesBy, Finishes}
+use Rattle.finish_reply.specs.Steps.{Completed, Tells}
 use Rattle.finish_reply.specs.Finishes.{none as says-none, full as says-full, finished as says-finished}
 
 -- k entries in the first places of two columns complete the given ones, and no fewer do

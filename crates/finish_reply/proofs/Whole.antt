@@ -21,7 +21,8 @@ use Rattle.joining.proofs.Joining.{entries-long}
 use Rattle.reply.specs.Said.{Shows}
 use Rattle.reply.proofs.Showing.{nothing}
 use Rattle.reply.proofs.Writing.{stands-placed, columns-fit}
-use Rattle.finish_reply.specs.Finishes.{fileOf, ShowsWhole}
+use Rattle.finish_reply.specs.Finishes.{fileOf}
+use Rattle.finish_reply.specs.Steps.{ShowsWhole}
 
 -- ---- the file of a placement, by its length
 

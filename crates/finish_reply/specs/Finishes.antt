@@ -13,13 +13,11 @@ use Rattle.rules.specs.Choose.{pick}
 use Rattle.rules.specs.Net.{Net}
 use Rattle.rules.specs.Load.{entries}
 use Rattle.rules.specs.Legal.{Legal}
-use Rattle.rules.specs.Complete.{Joins, Completes, LeastAdded, NoneCompletes}
-use Rattle.rules.specs.Sound.{SoundNet}
+use Rattle.rules.specs.Complete.{Joins, LeastAdded, NoneCompletes}
 use Rattle.placement_file.specs.File.{wire, offset, placementBytes}
 use Rattle.finish.specs.Answer.{halfJudged}
 use Rattle.answer.specs.Text.{countedText}
-use Rattle.reply.specs.Said.{Said, answered, refusal, Shows}
-use Rattle.reply.specs.declared.Reply.{Reply}
+use Rattle.reply.specs.Said.{Said, answered, refusal}
 
 -- "added "
 abbrev pub addedWord : List ℕ
@@ -43,24 +41,3 @@ FinishesBy (Refused r) n g s = s ≡ refusal [] r
 
 abbrev pub Finishes : Net → List ℕ → List ℕ → Said → Type 0
 Finishes n ws os s = FinishesBy (halfJudged n ws os) n (entries ws os) s
-
--- ---- between the functions
-
--- entries in columns that complete the given ones on some sound net
-pub record Completed (gw go aw ao : List ℕ) : Type 0 where
-  pub net : Net
-  pub sound : SoundNet net
-  pub completes : Completes net (entries gw go) (entries aw ao)
-  pub given : length go ≡ length gw
-  pub added : length ao ≡ length aw
-  pub few : length gw ≤ mostEntries
-  pub few-added : length aw ≤ mostEntries
-
--- the file of the whole, whatever net it is legal on
-abbrev pub ShowsWhole : List ℕ → List ℕ → List ℕ → List ℕ → List ℕ → ℕ → Type 0
-ShowsWhole gw go aw ao files size = (n : Net) → SoundNet n → (c : Completes n (entries gw go) (entries aw ao)) → Shows (fileOf (c .whole)) files size
-
-pub record Tells (gw go aw ao texts files : List ℕ) (r : Reply) : Type 0 where
-  pub text : Shows (countedText addedWord aw ao) texts (r .text)
-  pub file : ShowsWhole gw go aw ao files (r .file)
-  pub status : r .status ≡ 48

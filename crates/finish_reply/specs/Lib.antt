@@ -1,1 +1,2 @@
 pub mod Finishes
+pub mod Steps

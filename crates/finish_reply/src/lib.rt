@@ -6,7 +6,8 @@ ghost use Prim.Native.Nat.{_≤_};
 ghost use lib.ListN.{length};
 ghost use Rattle.rules.specs.Net.{netAt};
 ghost use Rattle.reply.specs.Said.{Conveys, mostText, mostFile};
-ghost use Rattle.finish_reply.specs.Finishes.{Finishes, Completed, ShowsWhole, Tells};
+ghost use Rattle.finish_reply.specs.Finishes.{Finishes};
+ghost use Rattle.finish_reply.specs.Steps.{Completed, ShowsWhole, Tells};
 
 // The most entries of a placement's columns and of its file.
 const ENTRIES: usize = 4096;
