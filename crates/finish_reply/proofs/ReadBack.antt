@@ -26,7 +26,7 @@ use Rattle.finish.specs.Answer.{halfJudged}
 use Rattle.finish.proofs.Judging.{half-sound}
 use Rattle.reply.specs.Said.{Said}
 use Rattle.reply.proofs.Writing.{stands-placed}
-use Rattle.finish_reply.specs.Finishes.{FinishesNet, none, full, finished, FinishesBy, Finishes}
+use Rattle.finish_reply.specs.Finishes.{fileOf, FinishesNet, none, full, finished, FinishesBy, Finishes}
 use Rattle.finish_reply.proofs.Whole.{file-some}
 
 pub record ReadsBack (n : Net) (g : List Entry) (s : Said) : Type 0 where
@@ -34,6 +34,7 @@ pub record ReadsBack (n : Net) (g : List Entry) (s : Said) : Type 0 where
   pub added : List Entry
   pub joins : Joins g added whole
   pub legal : Legal n whole
+  pub file : s .file ≡ fileOf whole
   pub read : length whole ≤ mostEntries → placementOf (s .file) ≡ placement whole
   pub checks : length whole ≤ mostEntries → checked n (map wire whole) (map offset whole) ≡ Sound
 
@@ -57,6 +58,7 @@ module _ (n : Net) (ws os : List ℕ) {s : Said} (answer : s .status ≡ 48) whe
     added = a;
     joins = joins;
     legal = legal;
+    file = ap (λ (s : Said). s .file) e;
     read = λ few. ap placementOf (ap (λ (s : Said). s .file) e ∙ file-some w few) ∙ bytes-file w (stands-placed start w (half-sound n ws os j .sound) (legal .stands) few);
     checks = legal-checked n w (own n ws os j) legal;
   }
