@@ -318,10 +318,17 @@ def locked_subfolder(folder, more):
 
 # ---------------------------------------------------------------- signals
 
+def heed():
+    """Signals as a person's shell leaves them: a script that runs this beside something else has them ignored."""
+    for number in (signal.SIGINT, signal.SIGQUIT, signal.SIGHUP):
+        signal.signal(number, signal.SIG_DFL)
+
+
 def start(folder, *words):
     """The launcher, waiting for its standard input: the process, and the pipe's end to write to."""
     read, write = os.pipe()
-    process = subprocess.Popen([LAUNCHER, *words], cwd=folder, stdin=read, stdout=subprocess.PIPE, stderr=subprocess.PIPE, start_new_session=True)
+    process = subprocess.Popen([LAUNCHER, *words], cwd=folder, stdin=read, stdout=subprocess.PIPE, stderr=subprocess.PIPE, start_new_session=True,
+                               preexec_fn=heed)
     os.close(read)
     return process, write
 
