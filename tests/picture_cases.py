@@ -136,4 +136,4 @@ def random_ones(chance, count):
 
 def cases():
     chance = random.Random(SEED)
-    return [*examples(), *odd_ones(chance), *large_ones(chance), *random_ones(chance, 24)]
+    return [*examples(), *odd_ones(chance), *large_ones(chance), *random_ones(chance, 256)]
