@@ -17,7 +17,7 @@ import sys
 WORD = re.compile(r'[^\s(){}.;,@"«»`]+')
 DECLARED = re.compile(r"(?m)^(?:(?:abbrev|unfoldable|private|pub|data|record|ruleset) +)*([^\s(){}.;,@\"«»]+)(?: *\{[^}\n]*\}| *\([^)\n]*\))* *:")
 FIELDS = re.compile(r"(?m)^  (?:pub +)?([^\s(){}.;,@\"«»=]+(?: +[^\s(){}.;,@\"«»=:]+)*) *: ")
-CLAUSE = re.compile(r"(?:requires|ensures|ghost)\b[^{};]*\{|ghost use [^;]*;")
+CLAUSE = re.compile(r"ghost use [^;]*;|(?:requires|ensures|ghost)\b[^{};]*\{")
 
 
 def files(*endings):

@@ -1,14 +1,14 @@
 // The entries that are added to the given ones, counted and written wire after wire beside them.
 ghost use Rattle.std.specs.Prelude.{◌≡◌, [], ◌+◌, ◌-◌, ◌≤◌, ◌<◌, length};
-ghost use Rattle.rules.specs.Figures.{mostWire, mostPlaces};
-ghost use Rattle.rules.specs.Load.{entries, offsetsOn};
+ghost use Rattle.rules.specs.Figures.{most_wire, most_places};
+ghost use Rattle.rules.specs.Load.{entries, offsets_on};
 ghost use Rattle.frontier.specs.Frontier;
 ghost use Rattle.frontier.specs.Spaced.{spread};
 ghost use Rattle.columns.specs.Columns.{Holds};
-ghost use Rattle.states.specs.States.{modelOf, CellOk};
-ghost use Rattle.relief.specs.Pieces.{mostPiece, addedFrom};
+ghost use Rattle.states.specs.States.{model_of, CellOk};
+ghost use Rattle.relief.specs.Pieces.{most_piece, added_from};
 ghost use Rattle.relief.specs.Runs;
-ghost use Rattle.adding.specs.Walks.{allAdded, Ready, IsWire, Begins, Counts, Stores, Wrote, WroteAll, Room};
+ghost use Rattle.adding.specs.Walks.{all_added, Ready, IsWire, Begins, Counts, Stores, Wrote, WroteAll, Room};
 
 use states::Cell;
 

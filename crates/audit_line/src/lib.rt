@@ -1,7 +1,7 @@
 // The lines of an audit after a record's name (RULES 11).
 ghost use Rattle.std.specs.Prelude.{◌≤◌, length};
 ghost use Rattle.reply.specs.Said.{Shows};
-ghost use Rattle.audit_line.specs.Lines.{mostLine, missingText, RefusedSays, LegalSays};
+ghost use Rattle.audit_line.specs.Lines.{most_line, missing_text, RefusedSays, LegalSays};
 
 use rules::Refusal;
 use tally::Found;

@@ -1,8 +1,8 @@
 // An audit's line of a record after its name, by the bytes of its two files (RULES 11).
 ghost use Rattle.std.specs.Prelude.{◌≤◌, length};
-ghost use Rattle.rules.specs.Net.{netAt};
+ghost use Rattle.rules.specs.Net.{net_at};
 ghost use Rattle.rules.specs.Legal.{Least};
-ghost use Rattle.audit_line.specs.Lines.{mostLine};
+ghost use Rattle.audit_line.specs.Lines.{most_line};
 ghost use Rattle.audit_reply.specs.Audits.{AuditSays, Reached, NetSays, OnNet};
 
 use audit_line::Audited;

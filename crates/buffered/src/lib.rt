@@ -1,11 +1,11 @@
 // A least placement of a net of buffers: the way up of a net of which nothing is given, then 8, then 9, then the entries.
 ghost use Rattle.std.specs.Prelude.{◌≡◌, [], ◌≤◌, length};
-ghost use Rattle.rules.specs.Net.{Net, netAt};
+ghost use Rattle.rules.specs.Net.{Net, net_at};
 ghost use Rattle.rules.specs.Legal.{Legal, Least};
 ghost use Rattle.rules.specs.Sound.{SoundNet};
-ghost use Rattle.states.specs.States.{modelOf, limitsOf, CellOk};
+ghost use Rattle.states.specs.States.{model_of, limits_of, CellOk};
 ghost use Rattle.columns.specs.Columns.{Holds};
-ghost use Rattle.adding.specs.Walks.{allAdded, Ready};
+ghost use Rattle.adding.specs.Walks.{all_added, Ready};
 ghost use Rattle.solution.specs.Answer.{Outcome};
 
 use solution::Solved;

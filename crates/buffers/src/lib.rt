@@ -1,15 +1,15 @@
 // A least completion of a net of buffers, by one pass from the last node up: an overfull node gets buffers atop its heaviest wires, a long wire takes its own as far
 // apart as they may be.
 ghost use Rattle.std.specs.Prelude.{◌≡◌, List, ℕ, suc, ◌+◌, ◌-◌, ◌*◌, ◌<◌, ◌≤◌, length};
-ghost use Rattle.rules.specs.Figures.{mostWire};
-ghost use Rattle.rules.specs.Net.{Net, netAt};
+ghost use Rattle.rules.specs.Figures.{most_wire};
+ghost use Rattle.rules.specs.Net.{Net, net_at};
 ghost use Rattle.rules.specs.Sound.{SoundNet};
-ghost use Rattle.states.specs.States.{modelOf, limitsOf, CellOk};
+ghost use Rattle.states.specs.States.{model_of, limits_of, CellOk};
 ghost use Rattle.relief.specs.Pieces;
-ghost use Rattle.relief.specs.Pieces.{mostPiece, bare};
+ghost use Rattle.relief.specs.Pieces.{most_piece, bare};
 ghost use Rattle.buffers.specs.Chain.{Chain, Chained, Heaviest};
 ghost use Rattle.buffers.specs.Easing.{Loaded, Eased};
-ghost use Rattle.buffers.specs.Going.{leadsIn, Led, tables, tablesAt, Going, Tried, AtNode, AtWire};
+ghost use Rattle.buffers.specs.Going.{leads_in, Led, tables, tables_at, Going, Tried, AtNode, AtWire};
 
 use states::Cell;
 

@@ -1,11 +1,11 @@
 // A placement taken to a net that eases its own.
 ghost use Rattle.std.specs.Prelude.{◌≡◌, min, length};
-ghost use Rattle.rules.specs.Net.{Net, netAt, unlimited};
+ghost use Rattle.rules.specs.Net.{Net, net_at, unlimited};
 ghost use Rattle.rules.specs.Load.{entries};
 ghost use Rattle.rules.specs.Sound.{SoundNet};
 ghost use Rattle.net.specs.Counted.{Level};
-ghost use Rattle.rules.specs.Ease.{carried, limitsEase, nodeEases, nodesEase, easeJudged};
-ghost use Rattle.carry.specs.Carry.{offsetsOf, CarriedIs, OnWires};
+ghost use Rattle.rules.specs.Ease.{carried, limits_ease, node_eases, nodes_ease, ease_judged};
+ghost use Rattle.carry.specs.Carry.{offsets_of, CarriedIs, OnWires};
 
 use checker::Verdict;
 use rules::{Judged, Limits, Node, Refusal};

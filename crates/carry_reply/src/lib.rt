@@ -1,13 +1,13 @@
 // What the verb `carry` says of a placement taken to a net that eases its own.
 ghost use Rattle.std.specs.Prelude.{◌≤◌, ◌≡◌, length};
 ghost use Rattle.rules.specs.declared.Judged.TheVariants.{Sound};
-ghost use Rattle.rules.specs.Net.{netAt};
+ghost use Rattle.rules.specs.Net.{net_at};
 ghost use Rattle.rules.specs.Load.{entries};
 ghost use Rattle.rules.specs.Judge.{judged};
-ghost use Rattle.placement_file.specs.File.{placementBytes};
-ghost use Rattle.answer.specs.Text.{countedText};
-ghost use Rattle.reply.specs.Said.{answered, Replies, mostText, mostFile};
-ghost use Rattle.carry_reply.specs.Carries.{carriedWord, Fit, carrySaid};
+ghost use Rattle.placement_file.specs.File.{placement_bytes};
+ghost use Rattle.answer.specs.Text.{counted_text};
+ghost use Rattle.reply.specs.Said.{answered, Replies, most_text, most_file};
+ghost use Rattle.carry_reply.specs.Carries.{carried_word, Fit, carry_said};
 
 use carry::Outcome;
 use reply::Reply;

@@ -1,8 +1,8 @@
 // What the verbs `check` and `loads` say of a placement on a net.
 ghost use Rattle.std.specs.Prelude.{◌≤◌, List, length};
-ghost use Rattle.rules.specs.Net.{netAt};
-ghost use Rattle.reply.specs.Said.{Replies, mostText};
-ghost use Rattle.check_reply.specs.Checks.{checkSaid, loadsSaid};
+ghost use Rattle.rules.specs.Net.{net_at};
+ghost use Rattle.reply.specs.Said.{Replies, most_text};
+ghost use Rattle.check_reply.specs.Checks.{check_said, loads_said};
 
 use checker::Verdict;
 use listing::Listed;

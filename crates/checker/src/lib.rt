@@ -1,9 +1,9 @@
 // The checker: judges anybody's placement on a net.
 ghost use Rattle.std.specs.Prelude.{◌≡◌};
-ghost use Rattle.rules.specs.Net.{netAt};
+ghost use Rattle.rules.specs.Net.{net_at};
 ghost use Rattle.rules.specs.Load.{driven};
-ghost use Rattle.rules.specs.Checked.{withinLimit};
-ghost use Rattle.load.specs.Asks.{offsetsAt, Placed, Weighable};
+ghost use Rattle.rules.specs.Checked.{within_limit};
+ghost use Rattle.load.specs.Asks.{offsets_at, Placed, Weighable};
 ghost use Rattle.checker.specs.Verdict.{settled, weighed, verdict};
 
 use rules::{Judged, Limits, Refusal};

@@ -1,7 +1,7 @@
 // The two columns that are lent to be filled with entries: their room, and entries written into them a span apart.
 ghost use Rattle.std.specs.Prelude.{◌≡◌, ◌+◌, ◌≤◌, min, length, replicate};
 ghost use Rattle.std.proofs.lemmas.List.Edits.{sets};
-ghost use Rattle.rules.specs.Figures.{mostEntries};
+ghost use Rattle.rules.specs.Figures.{most_entries};
 ghost use Rattle.frontier.specs.Spaced.{steps};
 
 // The room: the shorter of two columns, and at most 4,096.

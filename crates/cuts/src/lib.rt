@@ -1,7 +1,7 @@
 // What the walk down decides at one wire: which of its node's polarities and surpluses, and how many inverters, meet what it is asked.
 ghost use Rattle.std.specs.Prelude.{◌+◌, ◌≤◌};
-ghost use Rattle.rules.specs.Figures.{mostWire};
-ghost use Rattle.states.specs.States.{modelOf, st, CellOk, Small};
+ghost use Rattle.rules.specs.Figures.{most_wire};
+ghost use Rattle.states.specs.States.{model_of, st, CellOk, Small};
 ghost use Rattle.surplus.specs.Choice.{Meets, Aim};
 ghost use Rattle.cuts.specs.Tries.{OneOk, PickOk, TurnOk};
 

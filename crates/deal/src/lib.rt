@@ -1,12 +1,12 @@
 // A node's surplus dealt out to its wires once, along their chain.
 ghost use Rattle.std.specs.Prelude.{◌≡◌, ℕ, ◌+◌, ◌*◌, ◌<◌, ◌≤◌, min, length};
-ghost use Rattle.rules.specs.Figures.{mostPlaces, mostChildren};
+ghost use Rattle.rules.specs.Figures.{most_places, most_children};
 ghost use Rattle.rules.specs.Tree.{Hanging};
 ghost use Rattle.frontier.specs.Cell as model;
-ghost use Rattle.states.specs.States.{modelOf};
-ghost use Rattle.surplus.specs.Rows.{loadAt};
+ghost use Rattle.states.specs.States.{model_of};
+ghost use Rattle.surplus.specs.Rows.{load_at};
 ghost use Rattle.surplus.specs.Dealt.{f3, Shared};
-ghost use Rattle.surplus.specs.Tables.{loAt, hiAt};
+ghost use Rattle.surplus.specs.Tables.{lo_at, hi_at};
 ghost use Rattle.surplus.specs.Asks.{Gains, Asks, Asked, Out, PartIs, AsksMore, AskedMore};
 
 use rows::{PLACES, SIDES};

@@ -1,7 +1,7 @@
 // A field of a file, written: RULES 6.23.
 ghost use Rattle.std.specs.Prelude.{◌≡◌, [], ◌∷◌, ◌++◌, ◌+◌, ◌≤◌, length};
 ghost use Rattle.std.proofs.lemmas.List.Edits.{sets};
-ghost use Rattle.field.specs.Format.{bytesIn, bytes_of, wrote, laid};
+ghost use Rattle.field.specs.Format.{bytes_in, bytes_of, wrote, laid};
 
 use field::{Value, Wrote};
 use rules::{Limits, Refusal};

@@ -1,13 +1,13 @@
 // Finishes a half-buffered net: the fewest entries that, added to the given ones, make the whole legal.
 ghost use Rattle.std.specs.Prelude.{◌≡◌};
-ghost use Rattle.rules.specs.Net.{netAt};
+ghost use Rattle.rules.specs.Net.{net_at};
 ghost use Rattle.rules.specs.Load.{entries};
 ghost use Rattle.rules.specs.Sound.{SoundNet};
-ghost use Rattle.states.specs.States.{modelOf, limitsOf, CellOk};
-ghost use Rattle.adding.specs.Walks.{allAdded, Ready};
+ghost use Rattle.states.specs.States.{model_of, limits_of, CellOk};
+ghost use Rattle.adding.specs.Walks.{all_added, Ready};
 ghost use Rattle.adding.specs.Given.{Stood, Leads};
 ghost use Rattle.finish.specs.Given.{Fresh, Placed};
-ghost use Rattle.finish.specs.Answer.{Outcome, Answered, halfJudged};
+ghost use Rattle.finish.specs.Answer.{Outcome, Answered, half_judged};
 
 use states::Cell;
 

@@ -1,7 +1,7 @@
 // The verb `finish`: the fewest entries that, added to the given ones, make the whole legal, and the whole placement for a file (RULES 11).
 ghost use Rattle.std.specs.Prelude.{◌≤◌, length};
-ghost use Rattle.rules.specs.Net.{netAt};
-ghost use Rattle.reply.specs.Said.{Conveys, mostText, mostFile};
+ghost use Rattle.rules.specs.Net.{net_at};
+ghost use Rattle.reply.specs.Said.{Conveys, most_text, most_file};
 ghost use Rattle.finish_reply.specs.Finishes.{Finishes};
 ghost use Rattle.finish_reply.specs.Steps.{Completed, ShowsWhole, Tells};
 

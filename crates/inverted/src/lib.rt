@@ -1,11 +1,11 @@
 // The solver of inverters: up the tree to the least count, which the source's polarities have, then 8, then 9, then down again to a placement with that count.
 ghost use Rattle.std.specs.Prelude.{◌≡◌, ◌+◌, ◌*◌, ◌≤◌, length};
-ghost use Rattle.rules.specs.Figures.{mostChildren};
-ghost use Rattle.rules.specs.Net.{netAt};
+ghost use Rattle.rules.specs.Figures.{most_children};
+ghost use Rattle.rules.specs.Net.{net_at};
 ghost use Rattle.rules.specs.Sound.{SoundNet};
-ghost use Rattle.states.specs.States.{modelOf, limitsOf, st, CellOk};
+ghost use Rattle.states.specs.States.{model_of, limits_of, st, CellOk};
 ghost use Rattle.surplus.specs.Tables.{WiresJoined, NodesClosed};
-ghost use Rattle.columns.specs.Columns.{roomIn};
+ghost use Rattle.columns.specs.Columns.{room_in};
 ghost use Rattle.solution.specs.Answer.{Outcome};
 ghost use Rattle.inverted.specs.Source.{Picks, Rooted};
 

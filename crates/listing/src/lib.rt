@@ -1,9 +1,9 @@
 // The list of loads: what each entry of a placement drives, and the source.
 ghost use Rattle.std.specs.Prelude.{◌≡◌, ◌≤◌, length};
 ghost use Rattle.std.proofs.lemmas.List.Edits.{sets};
-ghost use Rattle.rules.specs.Net.{netAt};
-ghost use Rattle.rules.specs.Load.{driven, sourceDrives};
-ghost use Rattle.load.specs.Asks.{offsetsAt, Placed, Weighable};
+ghost use Rattle.rules.specs.Net.{net_at};
+ghost use Rattle.rules.specs.Load.{driven, source_drives};
+ghost use Rattle.load.specs.Asks.{offsets_at, Placed, Weighable};
 ghost use Rattle.listing.specs.Listing.{ListedIs};
 
 use rules::{Judged, Limits, Refusal};

@@ -1,12 +1,12 @@
 // What lies below a node, what a wire hands up, and what each entry drives, over lent columns.
 ghost use Rattle.std.specs.Prelude.{◌≡◌, ℕ, ◌+◌, ◌≤◌, ◌<◌, false, List, [], eqb, length, get_or};
 ghost use Rattle.rules.specs.Choose.{pick};
-ghost use Rattle.rules.specs.Net.{Net, netAt};
-ghost use Rattle.rules.specs.Load.{loadBelow, handedUp, driven, offsetsOn};
+ghost use Rattle.rules.specs.Net.{Net, net_at};
+ghost use Rattle.rules.specs.Load.{load_below, handed_up, driven, offsets_on};
 ghost use Rattle.rules.specs.Sound.{SoundNet};
 ghost use Rattle.load.specs.Next.{Parents, Searched, NoneFrom, Passed, NextIs};
 ghost use Rattle.load.specs.Tables.{Clear, Spans, Parts, Tables};
-ghost use Rattle.load.specs.Asks.{offsetsAt, Placed, Stacked, AsksNode, AsksWire, AskedNode, AskedWire, AsksEntry};
+ghost use Rattle.load.specs.Asks.{offsets_at, Placed, Stacked, AsksNode, AsksWire, AskedNode, AskedWire, AsksEntry};
 
 use rules::Limits;
 

@@ -1,7 +1,7 @@
 // The program: a net file on standard input, its answer on standard output (RULES 7).
 ghost use Rattle.std.specs.Prelude.{◌≡◌, ◌≤◌, length, take};
-ghost use Rattle.reply.specs.Said.{mostText};
-ghost use Rattle.mustorgyel.specs.Printed.{mostRead, Answers};
+ghost use Rattle.reply.specs.Said.{most_text};
+ghost use Rattle.mustorgyel.specs.Printed.{most_read, Answers};
 
 use input::Input;
 use libc::{STDERR_FILENO, STDIN_FILENO, STDOUT_FILENO};

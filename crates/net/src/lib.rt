@@ -1,9 +1,9 @@
 // The judge of a net's columns: the call that every other call makes first.
 ghost use Rattle.std.specs.Prelude.{◌≡◌, ℕ, suc, ◌+◌, ◌-◌, ◌<◌, ◌≤◌, List, length, get_or, set, eqb, ltb, leb};
 ghost use Rattle.rules.specs.Refusal.{number_of, place_of};
-ghost use Rattle.rules.specs.Net.{netAt, node, unlimited};
-ghost use Rattle.rules.specs.Judge.{limitsInRange, endInRange, nodeInRange, parentFits, admitted, hasChild, childedBy, judged};
-ghost use Rattle.net.specs.Counted.{sameLengths, nodeClear, Within, Level, Tallied, NodesJudged, treeJudged};
+ghost use Rattle.rules.specs.Net.{net_at, node, unlimited};
+ghost use Rattle.rules.specs.Judge.{limits_in_range, end_in_range, node_in_range, parent_fits, admitted, has_child, childed_by, judged};
+ghost use Rattle.net.specs.Counted.{same_lengths, node_clear, Within, Level, Tallied, NodesJudged, tree_judged};
 
 use rules::{Judged, Limits, Node, Refusal};
 

@@ -1,8 +1,8 @@
 // A net file, read into five lent columns: RULES 6.6.
 ghost use Rattle.std.specs.Prelude.{◌≡◌, ◌≤◌, min};
-ghost use Rattle.rules.specs.Net.{netAt, node, unlimited};
+ghost use Rattle.rules.specs.Net.{net_at, node, unlimited};
 ghost use Rattle.field.specs.Listed.{listed};
-ghost use Rattle.net_file.specs.NetFile.{columnsOf, room, laidOver, ReadNet};
+ghost use Rattle.net_file.specs.NetFile.{columns_of, room, laid_over, ReadNet};
 
 use net_file::NetRead;
 use rules::Refusal;

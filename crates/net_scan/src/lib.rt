@@ -1,10 +1,10 @@
 // Judges the bytes of a net file, field by field: RULES 5.1 to 5.3. The nodes go into columns of the reader's own, arrays of 1,025 places, which no
 // column is that a caller lends: so nothing lent changes before all is judged.
 ghost use Rattle.std.specs.Prelude.{◌≡◌, [], ◌∷◌, ◌+◌, ◌<◌, ◌≤◌, ◌^◌, length, get_or, leb};
-ghost use Rattle.rules.specs.Net.{netAt, unlimited};
-ghost use Rattle.rules.specs.Judge.{unless, thenJudge, childedBy};
+ghost use Rattle.rules.specs.Net.{net_at, unlimited};
+ghost use Rattle.rules.specs.Judge.{unless, then_judge, childed_by};
 ghost use Rattle.field.specs.Format.{cut_at, due_at};
-ghost use Rattle.net_file.specs.NetFile.{frontValue, frontOf, nodeDue, takenValue, takenAt, netFrom, netOf, columnsOf, laidOver};
+ghost use Rattle.net_file.specs.NetFile.{front_value, front_of, node_due, taken_value, taken_at, net_from, net_of, columns_of, laid_over};
 ghost use Rattle.net_scan.specs.Kept.{blank, JudgedFile};
 
 use field::{DueRead, Field, FieldRead, Value};

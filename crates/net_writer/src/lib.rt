@@ -1,9 +1,9 @@
 // A net's file, written into a lent buffer: RULES 6.7.
 ghost use Rattle.std.specs.Prelude.{◌≡◌, ◌≤◌, length};
 ghost use Rattle.std.proofs.lemmas.List.Edits.{sets};
-ghost use Rattle.rules.specs.Net.{netAt, unlimited};
+ghost use Rattle.rules.specs.Net.{net_at, unlimited};
 ghost use Rattle.net.specs.Counted.{Level};
-ghost use Rattle.net_file.specs.NetFile.{field_of, netBytes, WroteNet};
+ghost use Rattle.net_file.specs.NetFile.{field_of, net_bytes, WroteNet};
 
 use field::Value;
 use net_file::NetWrote;

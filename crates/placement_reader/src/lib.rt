@@ -1,9 +1,9 @@
 // A placement file, read into two lent columns: RULES 6.8.
 ghost use Rattle.std.specs.Prelude.{◌≡◌, map, ◌<◌, ◌≤◌, length};
 ghost use Rattle.std.proofs.lemmas.List.Edits.{sets};
-ghost use Rattle.rules.specs.Judge.{unless as orRefused, thenJudge};
+ghost use Rattle.rules.specs.Judge.{unless as orRefused, then_judge};
 ghost use Rattle.field.specs.Listed.{listed};
-ghost use Rattle.placement_file.specs.File.{due, countIn, entryIn, owed, countJudged, entry_at, entryJudged, endJudged, bodyJudged, fileJudged, wire, offset, placementOf, ReadAs};
+ghost use Rattle.placement_file.specs.File.{due, count_in, entry_in, owed, count_judged, entry_at, entry_judged, end_judged, body_judged, file_judged, wire, offset, placement_of, ReadAs};
 
 use field::{DueRead, Value};
 use placement_file::PlacementRead;

@@ -2,7 +2,7 @@
 ghost use Rattle.std.specs.Prelude.{◌≡◌, ◌+◌, ◌*◌, ◌≤◌, length};
 ghost use Rattle.std.proofs.lemmas.List.Edits.{sets};
 ghost use Rattle.rules.specs.Load.{entries};
-ghost use Rattle.placement_file.specs.File.{columnsOf, placementBytes, WroteAs};
+ghost use Rattle.placement_file.specs.File.{columns_of, placement_bytes, WroteAs};
 
 use field::{Value, Wrote};
 use placement_file::PlacementWrote;

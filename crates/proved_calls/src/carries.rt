@@ -1,8 +1,8 @@
 // The carry.
 ghost use Rattle.std.specs.Prelude.{◌≡◌, get_or};
-ghost use Rattle.rules.specs.Net.{netAt};
-ghost use Rattle.carry.specs.Carry.{outcomeNumber, outcomeCount, whichNet};
-ghost use Rattle.proved_calls.specs.Carries.{limitsAt, Carries};
+ghost use Rattle.rules.specs.Net.{net_at};
+ghost use Rattle.carry.specs.Carry.{outcome_number, outcome_count, which_net};
+ghost use Rattle.proved_calls.specs.Carries.{limits_at, Carries};
 
 use carry::Outcome;
 use rules::Limits;

@@ -1,9 +1,9 @@
 // The checker and the list of loads.
 ghost use Rattle.std.specs.Prelude.{◌≡◌};
-ghost use Rattle.rules.specs.Net.{netAt};
-ghost use Rattle.proved_calls.specs.Answers.{limitsOf};
-ghost use Rattle.checker.specs.Verdict.{verdictNumber, verdictCount, verdictSource};
-ghost use Rattle.listing.specs.Listing.{listedNumber, listedCount, listedSource};
+ghost use Rattle.rules.specs.Net.{net_at};
+ghost use Rattle.proved_calls.specs.Answers.{limits_of};
+ghost use Rattle.checker.specs.Verdict.{verdict_number, verdict_count, verdict_source};
+ghost use Rattle.listing.specs.Listing.{listed_number, listed_count, listed_source};
 ghost use Rattle.proved_calls.specs.Checks.{Checks, Lists};
 
 use checker::Verdict;

@@ -1,11 +1,11 @@
 // The readers and the writers of the two files.
 ghost use Rattle.std.specs.Prelude.{◌≡◌};
-ghost use Rattle.rules.specs.Net.{netAt, unlimited};
-ghost use Rattle.field.specs.Format.{wroteNumber as placementWroteNumber, wroteCount};
-ghost use Rattle.net_file.specs.NetFile.{readNumber, readPlaces, wroteNumber, wroteBytes};
-ghost use Rattle.placement_file.specs.File.{readNumber as placementReadNumber, readCount};
-ghost use Rattle.proved_calls.specs.Answers.{limitsOf};
-ghost use Rattle.proved_calls.specs.Files.{limitsAfter, ReadsNet, WritesNet, ReadsPlacement, WritesPlacement};
+ghost use Rattle.rules.specs.Net.{net_at, unlimited};
+ghost use Rattle.field.specs.Format.{wrote_number as placementWroteNumber, wrote_count};
+ghost use Rattle.net_file.specs.NetFile.{read_number, read_places, wrote_number, wrote_bytes};
+ghost use Rattle.placement_file.specs.File.{read_number as placementReadNumber, read_count};
+ghost use Rattle.proved_calls.specs.Answers.{limits_of};
+ghost use Rattle.proved_calls.specs.Files.{limits_after, ReadsNet, WritesNet, ReadsPlacement, WritesPlacement};
 
 use field::Wrote;
 use net_file::{NetRead, NetWrote};

@@ -1,8 +1,8 @@
 // The call that finishes a half-buffered net.
 ghost use Rattle.std.specs.Prelude.{◌≡◌};
-ghost use Rattle.rules.specs.Net.{netAt};
-ghost use Rattle.proved_calls.specs.Answers.{limitsOf};
-ghost use Rattle.finish.specs.Answer.{finishedNumber, finishedCount};
+ghost use Rattle.rules.specs.Net.{net_at};
+ghost use Rattle.proved_calls.specs.Answers.{limits_of};
+ghost use Rattle.finish.specs.Answer.{finished_number, finished_count};
 ghost use Rattle.proved_calls.specs.Finishes.{Finishes};
 
 use finish::Finished;

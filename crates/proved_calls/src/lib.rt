@@ -7,9 +7,9 @@ mod finishes;
 mod solves;
 
 ghost use Rattle.std.specs.Prelude.{◌≡◌};
-ghost use Rattle.rules.specs.Net.{netAt};
-ghost use Rattle.rules.specs.Refusal.{judgedNumber, judgedPlace};
-ghost use Rattle.proved_calls.specs.Answers.{limitsOf, Judges};
+ghost use Rattle.rules.specs.Net.{net_at};
+ghost use Rattle.rules.specs.Refusal.{judged_number, judged_place};
+ghost use Rattle.proved_calls.specs.Answers.{limits_of, Judges};
 
 use rules::{Judged, Limits};
 

@@ -1,8 +1,8 @@
 // The solver.
 ghost use Rattle.std.specs.Prelude.{◌≡◌};
-ghost use Rattle.rules.specs.Net.{netAt};
-ghost use Rattle.proved_calls.specs.Answers.{limitsOf};
-ghost use Rattle.solution.specs.Answer.{solvedNumber, solvedCount};
+ghost use Rattle.rules.specs.Net.{net_at};
+ghost use Rattle.proved_calls.specs.Answers.{limits_of};
+ghost use Rattle.solution.specs.Answer.{solved_number, solved_count};
 ghost use Rattle.proved_calls.specs.Solves.{Solves};
 
 use rules::Limits;

@@ -1,10 +1,10 @@
 // What the verbs of the desk say for the bytes of their files (RULES 11.3 to 11.9).
 ghost use Rattle.std.specs.Prelude.{◌≡◌, ◌≤◌, length};
-ghost use Rattle.rules.specs.Net.{netAt};
+ghost use Rattle.rules.specs.Net.{net_at};
 ghost use Rattle.rules.specs.Judge.{judged};
-ghost use Rattle.rules.specs.Figures.{mostEntries};
+ghost use Rattle.rules.specs.Figures.{most_entries};
 ghost use Rattle.rules.specs.declared.Judged.TheVariants.{Sound};
-ghost use Rattle.reply.specs.Said.{Conveys, mostText, mostFile};
+ghost use Rattle.reply.specs.Said.{Conveys, most_text, most_file};
 ghost use Rattle.replies.specs.Replies.{Columns, Says, SaysNet, SaysFiles, CarriesBetween, CarriesFrom, CarriesFiles};
 
 use net_file::NetRead;

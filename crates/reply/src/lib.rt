@@ -1,9 +1,9 @@
 // What a verb of the desk answers: a text, the bytes of a placement file where there is one, and a status (RULES 11).
 ghost use Rattle.std.specs.Prelude.{◌+◌, ◌≤◌, List, ◌≡◌, length};
 ghost use Rattle.rules.specs.Load.{entries};
-ghost use Rattle.rules.specs.Figures.{mostEntries};
-ghost use Rattle.placement_file.specs.File.{columnsOf, placement, placementBytes};
-ghost use Rattle.reply.specs.Said.{Shows, Replies, refusal, mostText, mostFile};
+ghost use Rattle.rules.specs.Figures.{most_entries};
+ghost use Rattle.placement_file.specs.File.{columns_of, placement, placement_bytes};
+ghost use Rattle.reply.specs.Said.{Shows, Replies, refusal, most_text, most_file};
 
 use field::Wrote;
 use rules::Refusal;

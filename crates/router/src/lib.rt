@@ -1,12 +1,12 @@
 // The one call that the router makes, from C: is this placement file legal on this net file?
 ghost use Rattle.std.specs.Prelude.{◌≡◌, ◌≤◌, length, take};
-ghost use Rattle.rules.specs.Net.{netAt};
-ghost use Rattle.rules.specs.Refusal.{judgedNumber};
+ghost use Rattle.rules.specs.Net.{net_at};
+ghost use Rattle.rules.specs.Refusal.{judged_number};
 ghost use Rattle.rules.specs.Checked.{checked};
-ghost use Rattle.net_file.specs.NetFile.{room, firstPlaces};
-ghost use Rattle.placement_file.specs.File.{placementOf};
-ghost use Rattle.checker.specs.Verdict.{verdictNumber};
-ghost use Rattle.router.specs.Routed.{onNet, routed};
+ghost use Rattle.net_file.specs.NetFile.{room, first_places};
+ghost use Rattle.placement_file.specs.File.{placement_of};
+ghost use Rattle.checker.specs.Verdict.{verdict_number};
+ghost use Rattle.router.specs.Routed.{on_net, routed};
 
 use checker::Verdict;
 use net_file::NetRead;

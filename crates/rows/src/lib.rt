@@ -1,11 +1,11 @@
 // A node's state out of the slot of its wires: by the slot's two loads where the first of them fits, and else by the row of the wires. The rows of an overfull node, of all
 // its wires and of each tail of them, are made in one scratch table.
 ghost use Rattle.std.specs.Prelude.{◌≡◌, ℕ, ◌+◌, ◌*◌, ◌<◌, ◌≤◌, min, length};
-ghost use Rattle.rules.specs.Figures.{mostPlaces, mostChildren};
+ghost use Rattle.rules.specs.Figures.{most_places, most_children};
 ghost use Rattle.rules.specs.Tree.{Hanging};
-ghost use Rattle.states.specs.States.{modelOf, CellOk};
-ghost use Rattle.surplus.specs.Rows.{loadAt, mixed, Mixed, FirstFit};
-ghost use Rattle.surplus.specs.Tables.{loAt, hiAt};
+ghost use Rattle.states.specs.States.{model_of, CellOk};
+ghost use Rattle.surplus.specs.Rows.{load_at, mixed, Mixed, FirstFit};
+ghost use Rattle.surplus.specs.Tables.{lo_at, hi_at};
 ghost use Rattle.surplus.specs.Asks.{Runs, Running, Rows, CloseIs, ClosedIs, AsksClose, AskedClose};
 
 use states::Cell;

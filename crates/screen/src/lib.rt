@@ -1,8 +1,8 @@
 // Passes a net that is plainly sound. No node stops a pass, so that many are looked at together. A no decides nothing: the judge then goes
 // node by node, and names the fault.
 ghost use Rattle.std.specs.Prelude.{◌≡◌, ◌≤◌, length, get_or};
-ghost use Rattle.rules.specs.Net.{netAt};
-ghost use Rattle.screen.specs.Screened.{Level, Every, nodeFits, countFits, Passed};
+ghost use Rattle.rules.specs.Net.{net_at};
+ghost use Rattle.screen.specs.Screened.{Level, Every, node_fits, count_fits, Passed};
 
 use rules::Limits;
 

@@ -1,11 +1,11 @@
 // The senses of a net's sinks, by the inverters from the source to each: 12.
 ghost use Rattle.std.specs.Prelude.{◌≡◌, ◌+◌, ◌%◌, ◌-◌, ◌≤◌, ◌<◌, length, get_or};
-ghost use Rattle.rules.specs.Figures.{mostPlaces};
-ghost use Rattle.rules.specs.Net.{Net, netAt, places};
+ghost use Rattle.rules.specs.Figures.{most_places};
+ghost use Rattle.rules.specs.Net.{Net, net_at, places};
 ghost use Rattle.rules.specs.Sound.{SoundNet};
-ghost use Rattle.rules.specs.Checked.{firstSink, oneSense};
+ghost use Rattle.rules.specs.Checked.{first_sink, one_sense};
 ghost use Rattle.load.specs.Tables.{Clear};
-ghost use Rattle.load.specs.Asks.{offsetsAt, Placed};
+ghost use Rattle.load.specs.Asks.{offsets_at, Placed};
 ghost use Rattle.senses.specs.Parity.{Counted, Turned};
 
 use rules::{Judged, Limits, Refusal};

@@ -1,7 +1,7 @@
 // The audit of a shelf: names of net files come in, a line goes out for each, and at the end the tally (RULES 11.10 to 11.13).
 // No record stops the rest. Nothing is kept of a record but its count.
 ghost use Rattle.std.specs.Prelude.{◌≤◌, length};
-ghost use Rattle.audit_line.specs.Lines.{mostLine};
+ghost use Rattle.audit_line.specs.Lines.{most_line};
 ghost use Rattle.whole.specs.Whole.{NetHeld};
 
 use audit_line::{Audited, Missing};

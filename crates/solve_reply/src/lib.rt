@@ -1,9 +1,9 @@
 // What the verb `solve` says of the bytes of a net file: the text, the placement file, the status (RULES 7, 10).
 ghost use Rattle.std.specs.Prelude.{◌≡◌, ◌≤◌, length};
 ghost use Rattle.rules.specs.declared.Judged.TheVariants.{Sound};
-ghost use Rattle.rules.specs.Net.{netAt};
+ghost use Rattle.rules.specs.Net.{net_at};
 ghost use Rattle.rules.specs.Judge.{judged};
-ghost use Rattle.reply.specs.Said.{Conveys, Shows, mostText, mostFile};
+ghost use Rattle.reply.specs.Said.{Conveys, Shows, most_text, most_file};
 ghost use Rattle.solve_reply.specs.Solves.{told, Given, SolvesNet, Solves};
 
 use listing::Listed;

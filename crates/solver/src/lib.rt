@@ -1,5 +1,5 @@
 // A least placement of a net: one call, and a solver of its own for each type.
-ghost use Rattle.rules.specs.Net.{netAt};
+ghost use Rattle.rules.specs.Net.{net_at};
 ghost use Rattle.rules.specs.Judge.{judged};
 ghost use Rattle.solution.specs.Answer.{Answered};
 

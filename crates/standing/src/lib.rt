@@ -1,8 +1,8 @@
 // Whether a placement stands on a net: the net's own refusals, then 7 for the placement's columns, then 10 for its entries.
 ghost use Rattle.std.specs.Prelude.{◌≡◌};
 ghost use Rattle.rules.specs.Choose.{both};
-ghost use Rattle.rules.specs.Net.{Net, netAt};
-ghost use Rattle.rules.specs.Checked.{onItsWire, notLower};
+ghost use Rattle.rules.specs.Net.{Net, net_at};
+ghost use Rattle.rules.specs.Checked.{on_its_wire, not_lower};
 ghost use Rattle.standing.specs.Stands.{stood, begun, HasWires};
 
 use rules::{Entry, Judged, Limits, Refusal};
@@ -12,7 +12,7 @@ const ENTRIES: usize = 4096;
 
 // Whether an entry stands on a wire, and not before another: the tests of 10.
 fn entry_stands(wire: &[u32], before: Entry, entry: Entry) -> bool
-    ensures { (n : Net) → HasWires n wire.now → result ≡ both (on_its_wire n entry) (not_lower before entry) }
+    ensures { (n : Net) → HasWires n wire.now → result ≡ both (on_its_wire n entry) (not_lower_lem before entry) }
 {
     let on = entry.wire as usize;
     if on == 0 {

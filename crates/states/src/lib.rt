@@ -1,9 +1,9 @@
 // The frontier's numbers at one wire: what it hands up over a node's state, by its inverters. No tables here.
 ghost use Rattle.std.specs.Prelude.{◌≡◌, ◌+◌, ◌-◌, ◌*◌, ◌<◌, ◌≤◌, min, max};
-ghost use Rattle.rules.specs.Figures.{mostWire};
-ghost use Rattle.frontier.specs.Frontier.{lost, has, T, mergeBy};
+ghost use Rattle.rules.specs.Figures.{most_wire};
+ghost use Rattle.frontier.specs.Frontier.{lost, has, T, merge_by};
 ghost use Rattle.frontier.specs.Cell.{cell_of, inv};
-ghost use Rattle.states.specs.States.{modelOf, limitsOf, st, CellOk, SmallS, Small, Falls, wireOf, Lifted};
+ghost use Rattle.states.specs.States.{model_of, limits_of, st, CellOk, SmallS, Small, Falls, wire_of, Lifted};
 
 // The limit C_U, the repeater's pin C_b, what is left of the limit beside the pin, and 1 for an inverter.
 #[derive(Drop)]

@@ -1,13 +1,13 @@
 // The way up: each node closed, and each wire hung before the wires after it under its parent, by one pass from the last node to the source.
 ghost use Rattle.std.specs.Prelude.{◌≡◌, suc, ◌+◌, ◌*◌, ◌<◌, ◌≤◌, length, set};
-ghost use Rattle.rules.specs.Figures.{mostPlaces, mostChildren, mostWire};
+ghost use Rattle.rules.specs.Figures.{most_places, most_children, most_wire};
 ghost use Rattle.rules.specs.Tree.{Hanging};
-ghost use Rattle.rules.specs.Net.{Net, netAt, parent, wire};
+ghost use Rattle.rules.specs.Net.{Net, net_at, parent, wire};
 ghost use Rattle.rules.specs.Sound.{SoundNet};
 ghost use Rattle.frontier.specs.Frontier;
-ghost use Rattle.states.specs.States.{modelOf, limitsOf, st, CellOk, Small};
-ghost use Rattle.surplus.specs.Pairs.{nearState};
-ghost use Rattle.surplus.specs.Tables.{headAt, field, countAt, SlotSmall, Hung, WiresJoined, NodesClosed, Filled};
+ghost use Rattle.states.specs.States.{model_of, limits_of, st, CellOk, Small};
+ghost use Rattle.surplus.specs.Pairs.{near_state};
+ghost use Rattle.surplus.specs.Tables.{head_at, field, count_at, SlotSmall, Hung, WiresJoined, NodesClosed, Filled};
 ghost use Rattle.surplus.specs.Asks.{AskedClose, AsksClose};
 ghost use Rattle.tables.specs.Turns.{SideIs, Hangs};
 

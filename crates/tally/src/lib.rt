@@ -1,7 +1,7 @@
 // The tally of an audit: how many records were found least, legal, refused and unread (RULES 11).
 ghost use Rattle.std.specs.Prelude.{◌≡◌, ◌≤◌, ◌<◌, length};
 ghost use Rattle.reply.specs.Said.{Shows};
-ghost use Rattle.tally.specs.Tallied.{Sums, Counts, tallyLine, mostTally, statusOf};
+ghost use Rattle.tally.specs.Tallied.{Sums, Counts, tally_line, most_tally, status_of};
 
 // What was found of a record: a legal placement with the least count, a legal one with more entries, a refusal, or a file that could not be read.
 #[derive(Drop)]

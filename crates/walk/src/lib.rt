@@ -2,13 +2,13 @@
 // entries are written there and then.
 ghost use Rattle.std.specs.Prelude.{◌≡◌, ℕ, ◌+◌, ◌-◌, ◌*◌, ◌<◌, ◌≤◌, length, replicate};
 ghost use Rattle.std.proofs.lemmas.List.Edits.{sets};
-ghost use Rattle.rules.specs.Figures.{mostPlaces, mostChildren, mostWire};
-ghost use Rattle.rules.specs.Net.{Net, netAt};
+ghost use Rattle.rules.specs.Figures.{most_places, most_children, most_wire};
+ghost use Rattle.rules.specs.Net.{Net, net_at};
 ghost use Rattle.rules.specs.Sound.{SoundNet};
-ghost use Rattle.states.specs.States.{modelOf, limitsOf, st, CellOk, Small};
+ghost use Rattle.states.specs.States.{model_of, limits_of, st, CellOk, Small};
 ghost use Rattle.surplus.specs.Choice.{Owes};
 ghost use Rattle.surplus.specs.Choice;
-ghost use Rattle.surplus.specs.Tables.{headAt, field, WiresJoined, NodesClosed};
+ghost use Rattle.surplus.specs.Tables.{head_at, field, WiresJoined, NodesClosed};
 ghost use Rattle.surplus.specs.Descent.{Cutting, Targeted, Decided, Begun, Written};
 ghost use Rattle.surplus.specs.Asks.{Asked};
 ghost use Rattle.walk.specs.Steps.{StaysIf, Handed};

@@ -1,7 +1,7 @@
 // Each verb's reply for its files, of which buffers hold the first bytes: all of them, or as many as there are places.
 ghost use Rattle.std.specs.Prelude.{◌≤◌, length};
-ghost use Rattle.reply.specs.Said.{mostText, mostFile};
-ghost use Rattle.audit_line.specs.Lines.{mostLine};
+ghost use Rattle.reply.specs.Said.{most_text, most_file};
+ghost use Rattle.audit_line.specs.Lines.{most_line};
 ghost use Rattle.whole.specs.Whole.{NetHeld, PlacementHeld, SolvesWhole, SaysWhole, CarriesWhole, AuditsWhole, Fits};
 
 use audit_line::Audited;
