@@ -1,4 +1,6 @@
 // The entries that are added to the given ones, counted and written wire after wire beside them.
+#![tactic(auto)]
+
 ghost use Rattle.std.specs.Prelude.{◌≡◌, [], ◌+◌, ◌-◌, ◌≤◌, ◌<◌, length};
 ghost use Rattle.rules.specs.Figures.{most_wire, most_places};
 ghost use Rattle.rules.specs.Load.{entries, offsets_on};
@@ -13,7 +15,7 @@ ghost use Rattle.adding.specs.Walks.{all_added, Ready, IsWire, Begins, Counts, S
 use states::Cell;
 
 // A wire: its number and size, what lies below it, and how many buffers stand at its upper end for its parent's sake.
-#[derive(Drop)]
+#[derive(Clone, Copy)]
 pub struct Wire {
     pub number: u16,
     pub size: u64,
@@ -23,7 +25,7 @@ pub struct Wire {
 
 // Where the walk through a wire's given entries has come to: the next entry, the place in the list of added ones, and the piece above: where it begins and what hangs
 // there.
-#[derive(Drop)]
+#[derive(Clone, Copy)]
 pub struct Walked {
     pub next: usize,
     pub to: usize,

@@ -1,4 +1,6 @@
 // The lines that are printed (RULES 7 and 11).
+#![tactic(auto)]
+
 ghost use Rattle.std.specs.Prelude.{◌≡◌, ◌+◌, ◌*◌, ◌≤◌, length, take};
 ghost use Rattle.answer.specs.Text.{Laid, digits, said, count_line, pair_line, entry_line, refused_line, refused_by, IsLine, entry_lines, place_line, place_lines, loads_text, answer_text, counted_text};
 

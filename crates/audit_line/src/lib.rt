@@ -1,4 +1,6 @@
 // The lines of an audit after a record's name (RULES 11).
+#![tactic(auto)]
+
 ghost use Rattle.std.specs.Prelude.{◌≤◌, length};
 ghost use Rattle.reply.specs.Said.{Shows};
 ghost use Rattle.audit_line.specs.Lines.{most_line, missing_text, RefusedSays, LegalSays};
@@ -7,14 +9,14 @@ use rules::Refusal;
 use tally::Found;
 
 // The bytes of the line, and what was found.
-#[derive(Drop)]
+#[derive(Clone, Copy)]
 pub struct Audited {
     pub bytes: usize,
     pub found: Found,
 }
 
 // What may be amiss with a record's files.
-#[derive(Drop)]
+#[derive(Clone, Copy)]
 pub enum Missing {
     NoNet,
     NetUnreadable,

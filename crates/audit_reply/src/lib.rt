@@ -1,4 +1,6 @@
 // An audit's line of a record after its name, by the bytes of its two files (RULES 11).
+#![tactic(auto)]
+
 ghost use Rattle.std.specs.Prelude.{◌≤◌, length};
 ghost use Rattle.rules.specs.Net.{net_at};
 ghost use Rattle.rules.specs.Legal.{Least};

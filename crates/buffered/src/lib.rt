@@ -1,4 +1,6 @@
 // A least placement of a net of buffers: the way up of a net of which nothing is given, then 8, then 9, then the entries.
+#![tactic(auto)]
+
 ghost use Rattle.std.specs.Prelude.{◌≡◌, [], ◌≤◌, length};
 ghost use Rattle.rules.specs.Net.{Net, net_at};
 ghost use Rattle.rules.specs.Legal.{Legal, Least};

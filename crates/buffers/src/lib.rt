@@ -1,5 +1,7 @@
 // A least completion of a net of buffers, by one pass from the last node up: an overfull node gets buffers atop its heaviest wires, a long wire takes its own as far
 // apart as they may be.
+#![tactic(auto)]
+
 ghost use Rattle.std.specs.Prelude.{◌≡◌, List, ℕ, suc, ◌+◌, ◌-◌, ◌*◌, ◌<◌, ◌≤◌, length};
 ghost use Rattle.rules.specs.Figures.{most_wire};
 ghost use Rattle.rules.specs.Net.{Net, net_at};

@@ -1,4 +1,6 @@
 // A placement taken to a net that eases its own.
+#![tactic(auto)]
+
 ghost use Rattle.std.specs.Prelude.{◌≡◌, min, length};
 ghost use Rattle.rules.specs.Net.{Net, net_at, unlimited};
 ghost use Rattle.rules.specs.Load.{entries};
@@ -11,7 +13,7 @@ use checker::Verdict;
 use rules::{Judged, Limits, Node, Refusal};
 
 // What the carry answers: the number of entries, or a refusal and what it is of.
-#[derive(Drop)]
+#[derive(Clone, Copy)]
 pub enum Outcome {
     Carried(usize),
     FirstNet(Refusal),

@@ -1,4 +1,6 @@
 // What the verb `carry` says of a placement taken to a net that eases its own.
+#![tactic(auto)]
+
 ghost use Rattle.std.specs.Prelude.{◌≤◌, ◌≡◌, length};
 ghost use Rattle.rules.specs.declared.Judged.TheVariants.{Sound};
 ghost use Rattle.rules.specs.Net.{net_at};

@@ -1,4 +1,6 @@
 // What the verbs `check` and `loads` say of a placement on a net.
+#![tactic(auto)]
+
 ghost use Rattle.std.specs.Prelude.{◌≤◌, List, length};
 ghost use Rattle.rules.specs.Net.{net_at};
 ghost use Rattle.reply.specs.Said.{Replies, most_text};

@@ -1,4 +1,6 @@
 // The checker: judges anybody's placement on a net.
+#![tactic(auto)]
+
 ghost use Rattle.std.specs.Prelude.{◌≡◌};
 ghost use Rattle.rules.specs.Net.{net_at};
 ghost use Rattle.rules.specs.Load.{driven};
@@ -9,7 +11,7 @@ ghost use Rattle.checker.specs.Verdict.{settled, weighed, verdict};
 use rules::{Judged, Limits, Refusal};
 
 // What the checker says of a placement.
-#[derive(Drop)]
+#[derive(Clone, Copy)]
 pub enum Verdict {
     Legal { count: usize, source: u64 },
     Refused(Refusal),

@@ -1,4 +1,6 @@
 // The two columns that are lent to be filled with entries: their room, and entries written into them a span apart.
+#![tactic(auto)]
+
 ghost use Rattle.std.specs.Prelude.{◌≡◌, ◌+◌, ◌≤◌, min, length, replicate};
 ghost use Rattle.std.proofs.lemmas.List.Edits.{sets};
 ghost use Rattle.rules.specs.Figures.{most_entries};

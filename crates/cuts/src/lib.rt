@@ -1,4 +1,6 @@
 // What the walk down decides at one wire: which of its node's polarities and surpluses, and how many inverters, meet what it is asked.
+#![tactic(auto)]
+
 ghost use Rattle.std.specs.Prelude.{◌+◌, ◌≤◌};
 ghost use Rattle.rules.specs.Figures.{most_wire};
 ghost use Rattle.states.specs.States.{model_of, st, CellOk, Small};
@@ -8,7 +10,7 @@ ghost use Rattle.cuts.specs.Tries.{OneOk, PickOk, TurnOk};
 use states::{Cell, Side};
 
 // Where a wire's inverters stand: the node's surplus and load, and how many they are.
-#[derive(Drop)]
+#[derive(Clone, Copy)]
 pub enum Stand {
     Not,
     At(u64, u64, u64),
@@ -48,7 +50,7 @@ fn choice(c: Cell, odd: u64, w: u64, s: Side, m: u64, l: u64) -> Stand
 }
 
 // The same over both of a node's polarities: its own, or the other one below an odd number of inverters.
-#[derive(Drop)]
+#[derive(Clone, Copy)]
 pub enum Turned {
     Same(u64, u64, u64),
     Other(u64, u64, u64),
@@ -72,7 +74,7 @@ pub fn choose(c: Cell, w: u64, same: Side, other: Side, m: u64, l: u64) -> Turne
 }
 
 // What a wire has to meet, and how many inverters stand at its upper end besides.
-#[derive(Drop)]
+#[derive(Clone, Copy)]
 pub struct Target {
     pub count: u64,
     pub load: u64,

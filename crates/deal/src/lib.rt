@@ -1,4 +1,6 @@
 // A node's surplus dealt out to its wires once, along their chain.
+#![tactic(auto)]
+
 ghost use Rattle.std.specs.Prelude.{◌≡◌, ℕ, ◌+◌, ◌*◌, ◌<◌, ◌≤◌, min, length};
 ghost use Rattle.rules.specs.Figures.{most_places, most_children};
 ghost use Rattle.rules.specs.Tree.{Hanging};

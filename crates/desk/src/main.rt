@@ -1,4 +1,5 @@
 // The desk: a verb and its files, by descriptors, and what it says on standard output (RULES 11). The launcher opens the files.
+#![tactic(auto)]
 
 ghost use Rattle.whole.specs.Whole.{Fits};
 

@@ -1,8 +1,10 @@
 // A field of a file: what it holds, and what reading and writing one answers; types, definitions and their laws, and no function.
+#![tactic(auto)]
+
 use rules::{Entry, Limits, Refusal};
 
 // The six things that a field is, each with its values: RULES 3.4, 3.12.
-#[derive(Drop)]
+#[derive(Clone, Copy)]
 pub enum Value {
     Limits(Limits),
     Branch {
@@ -21,14 +23,14 @@ pub enum Value {
 }
 
 // A field that has been read, with the byte where it begins.
-#[derive(Drop)]
+#[derive(Clone, Copy)]
 pub struct Field {
     pub at: usize,
     pub value: Value,
 }
 
 // What reading at a place finds.
-#[derive(Drop)]
+#[derive(Clone, Copy)]
 pub enum FieldRead {
     Got(Field),
     // Tag and length are right and the body is not all there: 1 where the tag is due, 2 where it is not.
@@ -37,14 +39,14 @@ pub enum FieldRead {
 }
 
 // What reading finds at a place where one tag is due.
-#[derive(Drop)]
+#[derive(Clone, Copy)]
 pub enum DueRead {
     Got(Field),
     Refused(Refusal),
 }
 
 // What writing a field answers.
-#[derive(Drop)]
+#[derive(Clone, Copy)]
 pub enum Wrote {
     Bytes(usize),
     Refused(Refusal),

@@ -1,4 +1,6 @@
 // A field of a file, read: RULES 6.22.
+#![tactic(auto)]
+
 ghost use Rattle.std.specs.Prelude.{◌≡◌, ◌+◌, ◌<◌, ◌≤◌, length, get_or};
 ghost use Rattle.field.specs.Format.{number_at, length_of, value_in, field_in, field_at, due_in, due_at};
 

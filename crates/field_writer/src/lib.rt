@@ -1,4 +1,6 @@
 // A field of a file, written: RULES 6.23.
+#![tactic(auto)]
+
 ghost use Rattle.std.specs.Prelude.{◌≡◌, [], ◌∷◌, ◌++◌, ◌+◌, ◌≤◌, length};
 ghost use Rattle.std.proofs.lemmas.List.Edits.{sets};
 ghost use Rattle.field.specs.Format.{bytes_in, bytes_of, wrote, laid};

@@ -1,6 +1,8 @@
 // Reads the stored files of standard input and prints a line for each: `read` and what the reader answers, or `refused` with number and
 // place. What was read is written back, and a file that comes back otherwise is told on a line that no expected output has.
 // A stored file stands after a byte that says what it is (1 a net file, else a placement file) and its length in four bytes, high byte first.
+#![tactic(auto)]
+
 ghost use Rattle.std.specs.Prelude.{◌<◌};
 
 use field::Wrote;

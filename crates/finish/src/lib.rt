@@ -1,4 +1,6 @@
 // Finishes a half-buffered net: the fewest entries that, added to the given ones, make the whole legal.
+#![tactic(auto)]
+
 ghost use Rattle.std.specs.Prelude.{◌≡◌};
 ghost use Rattle.rules.specs.Net.{net_at};
 ghost use Rattle.rules.specs.Load.{entries};
@@ -15,7 +17,7 @@ use states::Cell;
 const PLACES: usize = 1025;
 
 // What it answers: the number of entries added, or why it added none.
-#[derive(Drop)]
+#[derive(Clone, Copy)]
 pub enum Finished {
     Added(usize),
     Refused(rules::Refusal),

@@ -1,4 +1,6 @@
 // The verb `finish`: the fewest entries that, added to the given ones, make the whole legal, and the whole placement for a file (RULES 11).
+#![tactic(auto)]
+
 ghost use Rattle.std.specs.Prelude.{◌≤◌, length};
 ghost use Rattle.rules.specs.Net.{net_at};
 ghost use Rattle.reply.specs.Said.{Conveys, most_text, most_file};

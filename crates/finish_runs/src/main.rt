@@ -3,6 +3,8 @@
 // `placement refused ..` where that file is at fault, else `refused ..`. A file's place is counted from that file's first byte.
 // Where a file ends its reader says: the bytes after it begin the next. A file that is refused before its end takes all the rest with it,
 // so its line is the last; after a childless point (5) the next pair is read. A net with nothing after it has an empty placement file.
+#![tactic(auto)]
+
 ghost use Rattle.std.specs.Prelude.{◌≡◌, ◌+◌, ◌<◌, ◌≤◌, length};
 
 use finish::Finished;

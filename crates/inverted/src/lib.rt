@@ -1,4 +1,6 @@
 // The solver of inverters: up the tree to the least count, which the source's polarities have, then 8, then 9, then down again to a placement with that count.
+#![tactic(auto)]
+
 ghost use Rattle.std.specs.Prelude.{◌≡◌, ◌+◌, ◌*◌, ◌≤◌, length};
 ghost use Rattle.rules.specs.Figures.{most_children};
 ghost use Rattle.rules.specs.Net.{net_at};

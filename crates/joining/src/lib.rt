@@ -1,4 +1,6 @@
 // Given and added entries in one list, in order.
+#![tactic(auto)]
+
 ghost use Rattle.std.specs.Prelude.{◌+◌, ◌≤◌, ◌<◌, length, drop};
 ghost use Rattle.rules.specs.Load.{entries};
 ghost use Rattle.joining.specs.Joined.{Even, Left, Next, OneMore, JoinedIn};

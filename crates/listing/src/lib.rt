@@ -1,4 +1,6 @@
 // The list of loads: what each entry of a placement drives, and the source.
+#![tactic(auto)]
+
 ghost use Rattle.std.specs.Prelude.{◌≡◌, ◌≤◌, length};
 ghost use Rattle.std.proofs.lemmas.List.Edits.{sets};
 ghost use Rattle.rules.specs.Net.{net_at};
@@ -9,7 +11,7 @@ ghost use Rattle.listing.specs.Listing.{ListedIs};
 use rules::{Judged, Limits, Refusal};
 
 // What the list of loads says.
-#[derive(Drop)]
+#[derive(Clone, Copy)]
 pub enum Listed {
     Driven { count: usize, source: u64 },
     Refused(Refusal),

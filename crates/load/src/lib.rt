@@ -1,4 +1,6 @@
 // What lies below a node, what a wire hands up, and what each entry drives, over lent columns.
+#![tactic(auto)]
+
 ghost use Rattle.std.specs.Prelude.{◌≡◌, ℕ, ◌+◌, ◌≤◌, ◌<◌, false, List, [], eqb, length, get_or};
 ghost use Rattle.rules.specs.Choose.{pick};
 ghost use Rattle.rules.specs.Net.{Net, net_at};
@@ -14,7 +16,7 @@ use rules::Limits;
 pub const PLACES: usize = 1025;
 
 // A child of a node, or that there is none.
-#[derive(Drop)]
+#[derive(Clone, Copy)]
 pub enum Found {
     At(usize),
     Nothing,

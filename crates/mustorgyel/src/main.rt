@@ -1,4 +1,6 @@
 // The program: a net file on standard input, its answer on standard output (RULES 7).
+#![tactic(auto)]
+
 ghost use Rattle.std.specs.Prelude.{◌≡◌, ◌≤◌, length, take};
 ghost use Rattle.reply.specs.Said.{most_text};
 ghost use Rattle.mustorgyel.specs.Printed.{most_read, Answers};

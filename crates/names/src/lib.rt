@@ -1,4 +1,6 @@
 // The names of a shelf's net files: as they come in, a 0 byte after each; as they are printed; and the files that they name.
+#![tactic(auto)]
+
 ghost use Rattle.std.specs.Prelude.{◌+◌, ◌*◌, ◌≤◌, length, ◌≡◌};
 ghost use Rattle.names.specs.Names.{size_of, bytes_of};
 
@@ -10,7 +12,7 @@ pub const MOST_NAME: usize = 4095;
 // Bytes that are read at a time.
 pub const CHUNK: usize = 65536;
 
-#[derive(Drop)]
+#[derive(Clone, Copy)]
 pub enum Name {
     Bytes(usize),
     End,
@@ -18,7 +20,7 @@ pub enum Name {
     TooLong,
 }
 
-#[derive(Drop)]
+#[derive(Clone, Copy)]
 enum Byte {
     Is(u8),
     End,
@@ -105,7 +107,7 @@ pub fn size(name: Name) -> usize
 }
 
 // What a name led to.
-#[derive(Drop)]
+#[derive(Clone, Copy)]
 pub enum File {
     Bytes(usize),
     Missing,

@@ -1,4 +1,6 @@
 // The judge of a net's columns: the call that every other call makes first.
+#![tactic(auto)]
+
 ghost use Rattle.std.specs.Prelude.{◌≡◌, ℕ, suc, ◌+◌, ◌-◌, ◌<◌, ◌≤◌, List, length, get_or, set, eqb, ltb, leb};
 ghost use Rattle.rules.specs.Refusal.{number_of, place_of};
 ghost use Rattle.rules.specs.Net.{net_at, node, unlimited};

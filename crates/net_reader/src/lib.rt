@@ -1,4 +1,6 @@
 // A net file, read into five lent columns: RULES 6.6.
+#![tactic(auto)]
+
 ghost use Rattle.std.specs.Prelude.{◌≡◌, ◌≤◌, min};
 ghost use Rattle.rules.specs.Net.{net_at, node, unlimited};
 ghost use Rattle.field.specs.Listed.{listed};

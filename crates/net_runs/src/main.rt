@@ -1,6 +1,8 @@
 // Judges the nets of standard input and prints a line for each: `sound`, or the refusal's number and place.
 // The input is a count of two bytes and so many nets: the limits (4, 4 and 1 bytes), then the five columns,
 // each a length of two bytes and its values in the column's own width. Numbers have the high byte first.
+#![tactic(auto)]
+
 ghost use Rattle.std.specs.Prelude.{◌≤◌, length};
 
 fn main() {

@@ -1,5 +1,7 @@
 // Judges the bytes of a net file, field by field: RULES 5.1 to 5.3. The nodes go into columns of the reader's own, arrays of 1,025 places, which no
 // column is that a caller lends: so nothing lent changes before all is judged.
+#![tactic(auto)]
+
 ghost use Rattle.std.specs.Prelude.{◌≡◌, [], ◌∷◌, ◌+◌, ◌<◌, ◌≤◌, ◌^◌, length, get_or, leb};
 ghost use Rattle.rules.specs.Net.{net_at, unlimited};
 ghost use Rattle.rules.specs.Judge.{unless, then_judge, childed_by};

@@ -1,4 +1,6 @@
 // A net's file, written into a lent buffer: RULES 6.7.
+#![tactic(auto)]
+
 ghost use Rattle.std.specs.Prelude.{◌≡◌, ◌≤◌, length};
 ghost use Rattle.std.proofs.lemmas.List.Edits.{sets};
 ghost use Rattle.rules.specs.Net.{net_at, unlimited};

@@ -1,4 +1,6 @@
 // The judge of a placement's columns: whether a file can hold them (RULES 3.9, 5.9).
+#![tactic(auto)]
+
 ghost use Rattle.std.specs.Prelude.{◌≡◌, ◌<◌, length};
 ghost use Rattle.placement_file.specs.File.{entry_in_range, column_entry, ranges_judged, columns_judged};
 

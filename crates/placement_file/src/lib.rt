@@ -1,8 +1,10 @@
 // A placement file: what it says, and what reading and writing one answers; types, definitions and their laws, and no function.
+#![tactic(auto)]
+
 use rules::Refusal;
 
 // What the reader answers: how many entries it filled in, or why none.
-#[derive(Drop)]
+#[derive(Clone, Copy)]
 pub enum PlacementRead {
     Read(usize),
     Refused(Refusal),

@@ -1,4 +1,6 @@
 // A placement file, read into two lent columns: RULES 6.8.
+#![tactic(auto)]
+
 ghost use Rattle.std.specs.Prelude.{◌≡◌, map, ◌<◌, ◌≤◌, length};
 ghost use Rattle.std.proofs.lemmas.List.Edits.{sets};
 ghost use Rattle.rules.specs.Judge.{unless as orRefused, then_judge};

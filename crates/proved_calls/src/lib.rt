@@ -1,5 +1,7 @@
 // The proved calls over numbers and slices alone, so that the tests and the benches can make them from C.
 // Each answers the number of RULES 4.3 and leaves the place, or on success what the call answers, in `place`.
+#![tactic(auto)]
+
 mod carries;
 mod checks;
 mod files;

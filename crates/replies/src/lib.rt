@@ -1,4 +1,6 @@
 // What the verbs of the desk say for the bytes of their files (RULES 11.3 to 11.9).
+#![tactic(auto)]
+
 ghost use Rattle.std.specs.Prelude.{◌≡◌, ◌≤◌, length};
 ghost use Rattle.rules.specs.Net.{net_at};
 ghost use Rattle.rules.specs.Judge.{judged};
@@ -18,7 +20,7 @@ const PLACES: usize = 1025;
 const ENTRIES: usize = 4096;
 
 // A verb that takes a net file and a placement file.
-#[derive(Drop)]
+#[derive(Clone, Copy)]
 pub enum Verb {
     Check,
     Loads,

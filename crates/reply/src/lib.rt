@@ -1,4 +1,6 @@
 // What a verb of the desk answers: a text, the bytes of a placement file where there is one, and a status (RULES 11).
+#![tactic(auto)]
+
 ghost use Rattle.std.specs.Prelude.{◌+◌, ◌≤◌, List, ◌≡◌, length};
 ghost use Rattle.rules.specs.Load.{entries};
 ghost use Rattle.rules.specs.Figures.{most_entries};
@@ -9,7 +11,7 @@ use field::Wrote;
 use rules::Refusal;
 
 // The bytes of the text, those of the placement file, and the status: the character that is written to the launcher.
-#[derive(Drop)]
+#[derive(Clone, Copy)]
 pub struct Reply {
     pub text: usize,
     pub file: usize,

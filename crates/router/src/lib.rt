@@ -1,4 +1,6 @@
 // The one call that the router makes, from C: is this placement file legal on this net file?
+#![tactic(auto)]
+
 ghost use Rattle.std.specs.Prelude.{◌≡◌, ◌≤◌, length, take};
 ghost use Rattle.rules.specs.Net.{net_at};
 ghost use Rattle.rules.specs.Refusal.{judged_number};

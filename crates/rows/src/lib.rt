@@ -1,5 +1,7 @@
 // A node's state out of the slot of its wires: by the slot's two loads where the first of them fits, and else by the row of the wires. The rows of an overfull node, of all
 // its wires and of each tail of them, are made in one scratch table.
+#![tactic(auto)]
+
 ghost use Rattle.std.specs.Prelude.{◌≡◌, ℕ, ◌+◌, ◌*◌, ◌<◌, ◌≤◌, min, length};
 ghost use Rattle.rules.specs.Figures.{most_places, most_children};
 ghost use Rattle.rules.specs.Tree.{Hanging};
@@ -39,7 +41,7 @@ pub fn load_at(rows: &[u32], at: usize, last: usize, e: usize) -> u64
 }
 
 // What a wire hands up with 0, 1 or 2 of a surplus.
-#[derive(Drop)]
+#[derive(Clone, Copy)]
 pub struct Loads {
     pub least: u64,
     pub one: u64,
@@ -139,7 +141,7 @@ fn first_fit(rows: &[u32], at: usize, last: usize, limit: u64) -> usize
 }
 
 // What is kept of a node: its least load, that with one more, and one more than the surplus that it takes; 0 for none.
-#[derive(Drop)]
+#[derive(Clone, Copy)]
 pub struct Closed {
     pub load: u32,
     pub more: u32,

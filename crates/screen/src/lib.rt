@@ -1,5 +1,7 @@
 // Passes a net that is plainly sound. No node stops a pass, so that many are looked at together. A no decides nothing: the judge then goes
 // node by node, and names the fault.
+#![tactic(auto)]
+
 ghost use Rattle.std.specs.Prelude.{◌≡◌, ◌≤◌, length, get_or};
 ghost use Rattle.rules.specs.Net.{net_at};
 ghost use Rattle.screen.specs.Screened.{Level, Every, node_fits, count_fits, Passed};

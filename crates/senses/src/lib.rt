@@ -1,4 +1,6 @@
 // The senses of a net's sinks, by the inverters from the source to each: 12.
+#![tactic(auto)]
+
 ghost use Rattle.std.specs.Prelude.{◌≡◌, ◌+◌, ◌%◌, ◌-◌, ◌≤◌, ◌<◌, length, get_or};
 ghost use Rattle.rules.specs.Figures.{most_places};
 ghost use Rattle.rules.specs.Net.{Net, net_at, places};

@@ -1,5 +1,7 @@
 // The audit of a shelf: names of net files come in, a line goes out for each, and at the end the tally (RULES 11.10 to 11.13).
 // No record stops the rest. Nothing is kept of a record but its count.
+#![tactic(auto)]
+
 ghost use Rattle.std.specs.Prelude.{◌≤◌, length};
 ghost use Rattle.audit_line.specs.Lines.{most_line};
 ghost use Rattle.whole.specs.Whole.{NetHeld};
@@ -28,7 +30,7 @@ const NET: usize = 16384;
 const PLACEMENT: usize = 65536;
 
 // How an audit ends: with a status after the tally, or without one.
-#[derive(Drop)]
+#[derive(Clone, Copy)]
 pub enum Ended {
     Status(u8),
     NoOutput,
@@ -37,7 +39,7 @@ pub enum Ended {
     TooMany,
 }
 
-#[derive(Drop)]
+#[derive(Clone, Copy)]
 enum Step {
     Found(Found),
     End,

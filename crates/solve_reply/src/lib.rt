@@ -1,4 +1,6 @@
 // What the verb `solve` says of the bytes of a net file: the text, the placement file, the status (RULES 7, 10).
+#![tactic(auto)]
+
 ghost use Rattle.std.specs.Prelude.{◌≡◌, ◌≤◌, length};
 ghost use Rattle.rules.specs.declared.Judged.TheVariants.{Sound};
 ghost use Rattle.rules.specs.Net.{net_at};

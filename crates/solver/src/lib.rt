@@ -1,4 +1,6 @@
 // A least placement of a net: one call, and a solver of its own for each type.
+#![tactic(auto)]
+
 ghost use Rattle.rules.specs.Net.{net_at};
 ghost use Rattle.rules.specs.Judge.{judged};
 ghost use Rattle.solution.specs.Answer.{Answered};

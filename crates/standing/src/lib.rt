@@ -1,4 +1,6 @@
 // Whether a placement stands on a net: the net's own refusals, then 7 for the placement's columns, then 10 for its entries.
+#![tactic(auto)]
+
 ghost use Rattle.std.specs.Prelude.{◌≡◌};
 ghost use Rattle.rules.specs.Choose.{both};
 ghost use Rattle.rules.specs.Net.{Net, net_at};

@@ -1,4 +1,6 @@
 // The frontier's numbers at one wire: what it hands up over a node's state, by its inverters. No tables here.
+#![tactic(auto)]
+
 ghost use Rattle.std.specs.Prelude.{◌≡◌, ◌+◌, ◌-◌, ◌*◌, ◌<◌, ◌≤◌, min, max};
 ghost use Rattle.rules.specs.Figures.{most_wire};
 ghost use Rattle.frontier.specs.Frontier.{lost, has, T, merge_by};
@@ -6,7 +8,7 @@ ghost use Rattle.frontier.specs.Cell.{cell_of, inv};
 ghost use Rattle.states.specs.States.{model_of, limits_of, st, CellOk, SmallS, Small, Falls, wire_of, Lifted};
 
 // The limit C_U, the repeater's pin C_b, what is left of the limit beside the pin, and 1 for an inverter.
-#[derive(Drop)]
+#[derive(Clone, Copy)]
 pub struct Cell {
     pub limit: u64,
     pub pin: u64,
@@ -15,7 +17,7 @@ pub struct Cell {
 }
 
 // What is kept of a wire or a node at one polarity: the least count, the least load with it, and with one more.
-#[derive(Drop)]
+#[derive(Clone, Copy)]
 pub enum Side {
     Lost,
     Has(u64, u64, u64),
@@ -164,7 +166,7 @@ fn over(c: Cell, w: u64, same: Side, other: Side) -> Side
 }
 
 // A node or a wire at both polarities.
-#[derive(Drop)]
+#[derive(Clone, Copy)]
 pub struct Sides {
     pub plus: Side,
     pub minus: Side,

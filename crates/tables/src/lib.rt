@@ -1,4 +1,6 @@
 // The way up: each node closed, and each wire hung before the wires after it under its parent, by one pass from the last node to the source.
+#![tactic(auto)]
+
 ghost use Rattle.std.specs.Prelude.{◌≡◌, suc, ◌+◌, ◌*◌, ◌<◌, ◌≤◌, length, set};
 ghost use Rattle.rules.specs.Figures.{most_places, most_children, most_wire};
 ghost use Rattle.rules.specs.Tree.{Hanging};

@@ -1,10 +1,12 @@
 // The tally of an audit: how many records were found least, legal, refused and unread (RULES 11).
+#![tactic(auto)]
+
 ghost use Rattle.std.specs.Prelude.{◌≡◌, ◌≤◌, ◌<◌, length};
 ghost use Rattle.reply.specs.Said.{Shows};
 ghost use Rattle.tally.specs.Tallied.{Sums, Counts, tally_line, most_tally, status_of};
 
 // What was found of a record: a legal placement with the least count, a legal one with more entries, a refusal, or a file that could not be read.
-#[derive(Drop)]
+#[derive(Clone, Copy)]
 pub enum Found {
     Least,
     Legal,
@@ -13,7 +15,7 @@ pub enum Found {
 }
 
 // How many records there were, and how many of each.
-#[derive(Drop)]
+#[derive(Clone, Copy)]
 pub struct Tally {
     pub records: u64,
     pub least: u64,

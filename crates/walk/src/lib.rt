@@ -1,5 +1,7 @@
 // The way down: each wire's inverters and its node's polarity, in rising order of the wires. A node's surplus is dealt out to its wires when it is reached, and a wire's
 // entries are written there and then.
+#![tactic(auto)]
+
 ghost use Rattle.std.specs.Prelude.{◌≡◌, ℕ, ◌+◌, ◌-◌, ◌*◌, ◌<◌, ◌≤◌, length, replicate};
 ghost use Rattle.std.proofs.lemmas.List.Edits.{sets};
 ghost use Rattle.rules.specs.Figures.{most_places, most_children, most_wire};
@@ -18,7 +20,7 @@ use rows::{PLACES, SIDES};
 use states::{Cell, Side};
 
 // What is settled of a wire: its node's polarity and surplus, the load under its inverters, how many stand by spacing and how many at its upper end.
-#[derive(Drop)]
+#[derive(Clone, Copy)]
 pub struct Cut {
     pub sense: usize,
     pub left: usize,

@@ -1,4 +1,6 @@
 // Each verb's reply for its files, of which buffers hold the first bytes: all of them, or as many as there are places.
+#![tactic(auto)]
+
 ghost use Rattle.std.specs.Prelude.{◌≤◌, length};
 ghost use Rattle.reply.specs.Said.{most_text, most_file};
 ghost use Rattle.audit_line.specs.Lines.{most_line};
