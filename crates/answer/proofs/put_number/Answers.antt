@@ -9,7 +9,7 @@ use Rattle.answer.proofs.Laying.{laid_as}
 use Rattle.answer.proofs.put_number.Goals as goal
 
 pub put-requires : goal.put-requires
-put-requires c = omega (arith, ap length ((let written' : take c.decimal-count.result c.decimal-count.new.1.0 ≡ digits c.args.n = c.decimal-count.ensures.1.1 ∙ as_digits c.args.n c.decimal-count.result c.decimal-count.ensures.1.0 in written')))
+put-requires c = omega (arith, ap length ((let written' : take c.decimal-count.result c.decimal-count.new.out ≡ digits c.args.n = c.decimal-count.ensures.digits ∙ as_digits c.args.n c.decimal-count.result c.decimal-count.ensures.len in written')))
 
 pub returns : goal.returns
-returns c = laid_as ((let written' : take c.decimal-count.result c.decimal-count.new.1.0 ≡ digits c.args.n = c.decimal-count.ensures.1.1 ∙ as_digits c.args.n c.decimal-count.result c.decimal-count.ensures.1.0 in written')) c.put.ensures
+returns c = laid_as ((let written' : take c.decimal-count.result c.decimal-count.new.out ≡ digits c.args.n = c.decimal-count.ensures.digits ∙ as_digits c.args.n c.decimal-count.result c.decimal-count.ensures.len in written')) c.put.ensures
