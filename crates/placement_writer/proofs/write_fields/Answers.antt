@@ -17,7 +17,7 @@ loop-i-init c = putting_start c.requires.0 refl
 pub loop-i-preserved : goal.loop-i-preserved
 loop-i-preserved c =
     putting_next c.loop-i.invariant c.loop-i-test.true c.column_entry-e.ensures
-    (refl, put_back c.loop-i.out (bytes_of (Entry c.column_entry-e.result)) c.loop-i.at (omega (arith, c.loop-i.invariant.place, c.loop-i.invariant.kept, c.write_field.auto.0, c.loop-i-test.true)) c.write_field-in-loop-i.ensures.1)
+    (refl, put_back c.loop-i.out (bytes_of (Entry c.column_entry-e.result)) c.loop-i.at (omega (arith, c.loop-i.invariant.place, c.loop-i.invariant.kept, c.write_field.auto.out, c.loop-i-test.true)) c.write_field-in-loop-i.ensures.1)
 
 pub returns : goal.returns
 returns c =
