@@ -1,7 +1,8 @@
 # The verbs of ./mustorgyel, which reads this file where its first word is one of them. desk/help/VERB.txt is a verb's page.
 #
 # What is proved is the program target/bin/desk. It reads files that are opened here, and opens itself only those that an audit names:
-#   4, 5, 6   the files, in the order typed
+#   4, 5, 6   the files, in the order typed; the program opens each anew, and reads it from its first byte
+#   0         with the word 1, 2 or 3, that one of them, read from where it stands
 #   7         with the word -o, where the placement file goes
 #   3         where it writes one byte after all else was written, the status: 0 an answer, 1 a refusal
 # shellcheck shell=bash
@@ -96,17 +97,36 @@ shown() {
 
 # ------------------------------------------------------------ files that are read
 
-# Opens up to three files, in order. `inputs` gets their descriptors, and one of /dev/null for each that is not there.
+# Opens up to three files, in order. `inputs` gets their descriptors, and one of /dev/null for each that is not there; `stream` the
+# number of the file that the program is to read from where it stands, if there is one.
 open_files() {
     local name dashes=0
-    inputs=()
+    inputs=() stream=''
     for name in "$@"; do
         [ "$name" != - ] || dashes=$((dashes + 1))
         [ "$dashes" -le 1 ] || fail "standard input can be one of the files only"
         open_file "$name"
         inputs+=("$opened")
+        if [ "$name" = - ] || [ ! -f "/dev/fd/$opened" ]; then
+            [ -z "$stream" ] || keep_stream "${!stream}"
+            stream=${#inputs[@]}
+        fi
     done
     inputs+=("$nothing" "$nothing")
+}
+
+# Only one file can be the program's standard input. What another one gives is copied, as far as any reader looks.
+keep_stream() {
+    local kept
+    [ -n "$room" ] || need_room
+    kept=$room/stream$stream
+    copy "${inputs[stream - 1]}" "$kept" "$1"
+    exec {opened}<"$kept"
+    inputs[stream - 1]=$opened
+}
+
+copy() { # FROM TO NAME
+    beside head -c 65536 <&"$1" 2>/dev/null >"$2" || fail "$(shown "$3") could not be read to its end"
 }
 
 open_file() {
@@ -144,7 +164,7 @@ keep_bytes() {
     for i in "${!files[@]}"; do
         is_at_hand "${files[i]}" && continue
         at[i]=$room/$i
-        beside head -c 65536 <&"${inputs[i]}" 2>/dev/null >"${at[i]}" || fail "$(shown "${files[i]}") could not be read to its end"
+        copy "${inputs[i]}" "${at[i]}" "${files[i]}"
     done
 }
 
@@ -203,9 +223,10 @@ get_ready() {
 
 # Runs the program on the open files. `text` gets what it prints and `status` the byte behind it. No line begins with such a byte.
 ask() {
-    local heard
-    exec {heard}< <(exec "${runner[@]}" "$target/bin/desk" "$@" \
-        3>&1 4<&"${inputs[0]}" 5<&"${inputs[1]}" 6<&"${inputs[2]}" 7>&"${outlet:-$nothing}")
+    local heard from=0
+    [ -z "$stream" ] || from=${inputs[stream - 1]}
+    exec {heard}< <(exec "${runner[@]}" "$target/bin/desk" "$@" ${stream:+"$stream"} \
+        <&"$from" 3>&1 4<&"${inputs[0]}" 5<&"${inputs[1]}" 6<&"${inputs[2]}" 7>&"${outlet:-$nothing}")
     listen
     [[ $said == *$'\n'[01] ]] || no_answer
     status=${said: -1} text=${said%$'\n'?}

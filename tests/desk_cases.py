@@ -333,7 +333,7 @@ def start(folder, *words):
     return process, write
 
 
-WAITING = ((("solve", "-", "-o", "x"), (ROOT / "target/bin/desk", "solve", "-o")), (("audit", "-"), (ROOT / "target/bin/desk", "audit")),
+WAITING = ((("solve", "-", "-o", "x"), (ROOT / "target/bin/desk", "solve", "-o", "1")), (("audit", "-"), (ROOT / "target/bin/desk", "audit")),
            (("text", "-", "-o", "x"), (ROOT / "desk/twin", "text", "-")))
 
 

@@ -6,27 +6,25 @@
 ghost use Rattle.std.specs.Prelude.{◌<◌};
 
 use field::Wrote;
-use libc::{STDIN_FILENO, STDOUT_FILENO};
 use net_file::{NetRead, NetWrote};
 use placement_file::PlacementRead;
 use rules::{Limits, Refusal};
+use std::io;
+use std::io::Read;
 
 // The line of a refusal.
-fn print_refusal(why: Refusal) {
+fn print_refusal(rt: &impl Print, why: Refusal) -> io::Result<()> {
     let line = answer::refused_line(why);
     let text = line.text;
     let bytes = line.bytes;
-    io::write_all(STDOUT_FILENO, &text[..bytes]);
+    rt.write_all(&text[..bytes])
 }
 
-fn print_read(same: bool, filled: usize) {
+fn print_read(rt: &impl Print, same: bool, filled: usize) -> io::Result<()> {
     if !same {
-        io::write_all(STDOUT_FILENO, b"not the same bytes\n");
-        return;
+        return rt.println("not the same bytes");
     }
-    io::write_all(STDOUT_FILENO, b"read ");
-    io::print_decimal(STDOUT_FILENO, filled as u64);
-    io::write_all(STDOUT_FILENO, b"\n");
+    println!(rt; "read {filled}")
 }
 
 // Whether the first n bytes of out are those of s.
@@ -34,7 +32,7 @@ fn begins(out: &[u8], n: usize, s: &[u8]) -> bool {
     if out.len() < n {
         return false;
     }
-    check::same(s, &out[..n])
+    s == &out[..n]
 }
 
 // Whether the net is written as the bytes s.
@@ -92,7 +90,7 @@ fn write_places(
     )
 }
 
-fn run_net(s: &[u8]) {
+fn run_net(rt: &impl Print, s: &[u8]) -> io::Result<()> {
     let mut parent = [0u16; 1025];
     let mut wire = [0u32; 1025];
     let mut kind = [0u8; 1025];
@@ -109,9 +107,9 @@ fn run_net(s: &[u8]) {
     match got {
         NetRead::Read { limits, places } => {
             let same = write_places(s, limits, places, &parent, &wire, &kind, &pin, &polarity);
-            print_read(same, places)
+            print_read(rt, same, places)
         }
-        NetRead::Refused(r) => print_refusal(r),
+        NetRead::Refused(r) => print_refusal(rt, r),
     }
 }
 
@@ -136,16 +134,16 @@ fn write_entries(s: &[u8], n: usize, wires: &[u16], offsets: &[u32]) -> bool {
     placement_comes_back(s, &wires[..n], &offsets[..n])
 }
 
-fn run_placement(s: &[u8]) {
+fn run_placement(rt: &impl Print, s: &[u8]) -> io::Result<()> {
     let mut wires = [0u16; 4096];
     let mut offsets = [0u32; 4096];
     let got = placement_reader::read_placement(s, &mut wires, &mut offsets);
     match got {
         PlacementRead::Read(n) => {
             let same = write_entries(s, n, &wires, &offsets);
-            print_read(same, n)
+            print_read(rt, same, n)
         }
-        PlacementRead::Refused(r) => print_refusal(r),
+        PlacementRead::Refused(r) => print_refusal(rt, r),
     }
 }
 
@@ -162,49 +160,50 @@ fn size_in(head: &[u8; 5]) -> usize
     wide(head[3]) * 256 + wide(head[4])
 }
 
-fn read_front(file: &mut [u8], n: usize) {
+// Where the input ends before the file does, the places behind its end stay 0.
+fn read_front<R: Read>(reader: &mut R, file: &mut [u8], n: usize) {
     if file.len() < n {
         return;
     }
-    io::read_full(STDIN_FILENO, &mut file[..n]);
+    input::read(reader, &mut file[..n]);
 }
 
-fn run_file(kind: u8, s: &[u8]) {
+fn run_file(rt: &impl Print, kind: u8, s: &[u8]) -> io::Result<()> {
     if kind == 1 {
-        run_net(s)
+        run_net(rt, s)
     } else {
-        run_placement(s)
+        run_placement(rt, s)
     }
 }
 
-fn run_front(kind: u8, file: &[u8], n: usize) {
+fn run_front(rt: &impl Print, kind: u8, file: &[u8], n: usize) -> io::Result<()> {
     if file.len() < n {
-        return;
+        return Ok(());
     }
-    run_file(kind, &file[..n]);
+    run_file(rt, kind, &file[..n])
 }
 
 // The next file of the input, and whether there was one.
-fn next_file() -> bool {
+fn next_file<R: Read>(rt: &impl Print, reader: &mut R) -> io::Result<bool> {
     let mut head = [0u8; 5];
-    let got = io::read_full(STDIN_FILENO, &mut head);
-    if got != 5 {
-        return false;
+    let got = input::read(reader, &mut head);
+    if input::count(got) != 5 {
+        return Ok(false);
     }
     let n = size_in(&head);
-    let mut file = io::large_buffer();
-    read_front(&mut file, n);
-    run_front(head[0], &file, n);
-    true
+    let mut file = [0u8; 65536];
+    read_front(reader, &mut file, n);
+    run_front(rt, head[0], &file, n)?;
+    Ok(true)
 }
 
-// A proved loop has to end, and nothing says that the input does: the turns are counted down from more than any set has.
-fn main() {
-    let mut turns: usize = 100000;
-    while turns > 0 {
-        if !next_file() {
-            return;
+// A proved loop has to end, and nothing says that the input does: the turns are more than any set has.
+fn main(rt: HostRuntime) -> io::Result<()> {
+    let mut reader = rt.stdin();
+    for _ in 0..100000u32 {
+        if !next_file(&rt, &mut reader)? {
+            break;
         }
-        turns -= 1;
     }
+    Ok(())
 }

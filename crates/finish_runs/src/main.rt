@@ -5,13 +5,14 @@
 // so its line is the last; after a childless point (5) the next pair is read. A net with nothing after it has an empty placement file.
 #![tactic(auto)]
 
-ghost use Rattle.std.specs.Prelude.{◌≡◌, ◌+◌, ◌<◌, ◌≤◌, length};
+ghost use Rattle.std.specs.Prelude.{◌≡◌, ◌+◌, ◌<◌, ◌≤◌, IfOk, length};
 
 use finish::Finished;
-use libc::{STDERR_FILENO, STDIN_FILENO, STDOUT_FILENO};
+use input::Input;
 use net_file::NetRead;
 use placement_file::PlacementRead;
 use rules::{Limits, Refusal};
+use std::io;
 
 // Room for two of the longest pairs and many short ones. An input that fills it may have been cut, so it gets no answer.
 const INPUT: usize = 131072;
@@ -22,36 +23,27 @@ const PLACES: usize = 1025;
 const ENTRIES: usize = 4096;
 
 // The line of a refusal.
-fn print_refusal(why: Refusal) {
+fn print_refusal(rt: &impl Print, why: Refusal) -> io::Result<()> {
     let line = answer::refused_line(why);
     let text = line.text;
     let bytes = line.bytes;
-    io::write_all(STDOUT_FILENO, &text[..bytes]);
+    rt.write_all(&text[..bytes])
 }
 
-fn print_entry(wire: u16, offset: u32) {
-    io::write_all(STDOUT_FILENO, b"wire ");
-    io::print_decimal(STDOUT_FILENO, wire as u64);
-    io::write_all(STDOUT_FILENO, b" offset ");
-    io::print_decimal(STDOUT_FILENO, offset as u64);
-    io::write_all(STDOUT_FILENO, b"\n");
-}
-
-fn print_added(wires: &[u16], offsets: &[u32])
+fn print_added(rt: &impl Print, wires: &[u16], offsets: &[u32]) -> io::Result<()>
     requires { length offsets.now ≡ length wires.now }
 {
-    io::write_all(STDOUT_FILENO, b"added ");
-    io::print_decimal(STDOUT_FILENO, wires.len() as u64);
-    io::write_all(STDOUT_FILENO, b"\n");
-    let mut i = 0;
-    while i < wires.len() {
-        print_entry(wires[i], offsets[i]);
-        i += 1;
+    let count = wires.len();
+    println!(rt; "added {count}")?;
+    for (wire, offset) in wires.iter().zip(offsets) {
+        println!(rt; "wire {wire} offset {offset}")?;
     }
+    Ok(())
 }
 
 // A net and its given entries.
 fn finish_given(
+    rt: &impl Print,
     limits: Limits,
     parent: &[u16],
     wire: &[u32],
@@ -60,20 +52,21 @@ fn finish_given(
     polarity: &[u8],
     given: &[u16],
     offsets: &[u32],
-) {
+) -> io::Result<()> {
     let mut wires = [0u16; ENTRIES];
     let mut added = [0u32; ENTRIES];
     let finished = finish::finish(
         limits, parent, wire, kind, pin, polarity, given, offsets, &mut wires, &mut added,
     );
     match finished {
-        Finished::Added(count) => print_added(&wires[..count], &added[..count]),
-        Finished::Refused(why) => print_refusal(why),
+        Finished::Added(count) => print_added(rt, &wires[..count], &added[..count]),
+        Finished::Refused(why) => print_refusal(rt, why),
     }
 }
 
 // A net and the placement file of its given entries.
 fn finish_net(
+    rt: &impl Print,
     limits: Limits,
     parent: &[u16],
     wire: &[u32],
@@ -81,12 +74,13 @@ fn finish_net(
     pin: &[u32],
     polarity: &[u8],
     placement: &[u8],
-) {
+) -> io::Result<()> {
     let mut given = [0u16; ENTRIES];
     let mut offsets = [0u32; ENTRIES];
     let found = placement_reader::read_placement(placement, &mut given, &mut offsets);
     match found {
         PlacementRead::Read(count) => finish_given(
+            rt,
             limits,
             parent,
             wire,
@@ -97,14 +91,14 @@ fn finish_net(
             &offsets[..count],
         ),
         PlacementRead::Refused(why) => {
-            io::write_all(STDOUT_FILENO, b"placement ");
-            print_refusal(why)
+            rt.print("placement ")?;
+            print_refusal(rt, why)
         }
     }
 }
 
 // A net file and the placement file of its given entries.
-fn finish_pair(net: &[u8], placement: &[u8]) {
+fn finish_pair(rt: &impl Print, net: &[u8], placement: &[u8]) -> io::Result<()> {
     let mut parent = [0u16; PLACES];
     let mut wire = [0u32; PLACES];
     let mut kind = [0u8; PLACES];
@@ -120,6 +114,7 @@ fn finish_pair(net: &[u8], placement: &[u8]) {
     );
     match found {
         NetRead::Read { limits, places } => finish_net(
+            rt,
             limits,
             &parent[..places],
             &wire[..places],
@@ -129,8 +124,8 @@ fn finish_pair(net: &[u8], placement: &[u8]) {
             placement,
         ),
         NetRead::Refused(why) => {
-            io::write_all(STDOUT_FILENO, b"net ");
-            print_refusal(why)
+            rt.print("net ")?;
+            print_refusal(rt, why)
         }
     }
 }
@@ -186,31 +181,33 @@ fn placement_bytes(s: &[u8]) -> usize
 }
 
 // The pair that s begins with, of which the net file has n bytes. It answers the bytes of the placement file.
-fn finish_first(s: &[u8], n: usize) -> usize
+fn finish_first(rt: &impl Print, s: &[u8], n: usize) -> io::Result<usize>
     requires { n ≤ length s.now }
-    ensures { n + result ≤ length s.now }
+    ensures { IfOk result (λ m. n + m ≤ length s.now) }
 {
     let m = placement_bytes(&s[n..]);
     let end = n + m;
-    finish_pair(&s[..n], &s[n..end]);
-    m
+    finish_pair(rt, &s[..n], &s[n..end])?;
+    Ok(m)
 }
 
-fn finish_all(s: &[u8]) {
+fn finish_all(rt: &impl Print, s: &[u8]) -> io::Result<()> {
     let mut at = 0;
     while at < s.len() {
         let n = net_bytes(&s[at..]);
-        let m = finish_first(&s[at..], n);
+        let m = finish_first(rt, &s[at..], n)?;
         at += n + m;
     }
+    Ok(())
 }
 
-fn main() {
+fn main(rt: HostRuntime) -> io::Result<()> {
     let mut input = [0u8; INPUT];
-    let count = io::read_full(STDIN_FILENO, &mut input);
+    let Input::Bytes(count) = input::read(&mut rt.stdin(), &mut input) else {
+        return rt.eprintln("the input could not be read to its end");
+    };
     if count == INPUT {
-        io::write_all(STDERR_FILENO, b"the input is longer than 131071 bytes\n");
-        return;
+        return rt.eprintln("the input is longer than 131071 bytes");
     }
-    finish_all(&input[..count])
+    finish_all(&rt, &input[..count])
 }

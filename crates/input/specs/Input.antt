@@ -1,5 +1,6 @@
 -- What was read of an input.
-use Rattle.std.specs.Prelude.{ℕ, ◌<◌, ◌≡◌, List, length, get_or, take}
+use Rattle.std.specs.Prelude.{ℕ, ◌<◌, ◌≡◌, List, length, get_or, take, Option, None, Some, ⊤}
+use Rattle.std.specs.Io.KnownBytes.{Consumes, Keeps, IsAtEnd}
 use Rattle.input.specs.declared.Input.{Input}
 use Rattle.input.specs.declared.Input.TheVariants.{Bytes, Failed}
 
@@ -12,3 +13,15 @@ count_of Failed = 0
 pub record ReadOf (s buffer : List ℕ) (count : ℕ) : Type 0 where
   pub bytes : (k : ℕ) → get_or s k 0 < 256
   pub front : take count buffer ≡ take (length buffer) s
+
+-- One read of a reader whose bytes are known: those that it had left begin with what was put at the buffer's front, and lose it, and
+-- nothing was put into a buffer with room only where none was left. A read that failed takes none.
+abbrev pub TakesOnce : Option (List ℕ) → Option (List ℕ) → Input → List ℕ → Type 0
+TakesOnce old new (Bytes count) buffer = Consumes old new (take count buffer) × (count ≡ 0 → 0 < length buffer → IsAtEnd new)
+TakesOnce old new Failed buffer = Keeps old new
+
+-- Reads of a reader whose bytes are known fill the buffer's front with them: with all, or with as many as the buffer has places.
+abbrev pub TakesFront : Option (List ℕ) → Input → List ℕ → Type 0
+TakesFront None read buffer = ⊤
+TakesFront (Some s) (Bytes count) buffer = take count buffer ≡ take (length buffer) s
+TakesFront (Some s) Failed buffer = ⊤

@@ -2,7 +2,9 @@
 #![tactic(auto)]
 
 ghost use Rattle.std.specs.Prelude.{◌≤◌, length, ◌≡◌};
-ghost use Rattle.input.specs.Input.{count_of};
+ghost use Rattle.input.specs.Input.{count_of, TakesFront, TakesOnce};
+
+use std::io::Read;
 
 #[derive(Clone, Copy)]
 pub enum Input {
@@ -10,26 +12,27 @@ pub enum Input {
     Failed,
 }
 
-// One read; no bytes are the end of the input. Every failure counts as one, also what another try might mend: the library does not say
-// which it was, and a piece of the input is not the input.
-pub fn read_once(fd: i32, part: &mut [u8]) -> Input
-    ensures { count_of result ≤ length part.new }
+// One read; no bytes are the end of the input. Every failure counts as one, also what another try might mend: a piece of the input is
+// not the input.
+pub fn read_once<R: Read>(reader: &mut R, part: &mut [u8]) -> Input
+    ensures within { count_of result ≤ length part.new }
+    ensures bytes { TakesOnce (R.remaining reader.old) (R.remaining reader.new) result part.new }
 {
-    let got = libc::read(fd, part);
-    if got < 0 {
-        return Input::Failed;
+    match reader.read(part) {
+        Ok(count) => Input::Bytes(count),
+        Err(_) => Input::Failed,
     }
-    Input::Bytes(io::count(got, part))
 }
 
-// Reads until the buffer is full, the input ends or a read fails. `io::read_full` does not tell the last two apart, and one more read
-// after it cannot always: a broken connection fails once, and after that it reads as one that ended.
-pub fn read(fd: i32, buffer: &mut [u8]) -> Input
-    ensures { count_of result ≤ length buffer.new }
+// Reads until the buffer is full, the input ends or a read fails. One more read after it would not always tell the last two apart: a
+// broken connection fails once, and after that it reads as one that ended.
+pub fn read<R: Read>(reader: &mut R, buffer: &mut [u8]) -> Input
+    ensures within { count_of result ≤ length buffer.new }
+    ensures bytes { TakesFront (R.remaining reader.old) result buffer.new }
 {
     let mut count = 0;
     while count < buffer.len() {
-        let part = read_once(fd, &mut buffer[count..]);
+        let part = read_once(reader, &mut buffer[count..]);
         let Input::Bytes(more) = part else {
             return Input::Failed;
         };

@@ -6,7 +6,6 @@ ghost use Rattle.reply.specs.Said.{most_text};
 ghost use Rattle.mustorgyel.specs.Printed.{most_read, Answers};
 
 use input::Input;
-use libc::{STDERR_FILENO, STDIN_FILENO, STDOUT_FILENO};
 
 // The bytes that are taken in (RULES 7.2). They decide the answer, whatever comes after them.
 const INPUT: usize = 16384;
@@ -30,24 +29,25 @@ fn answer_input(buffer: &[u8], count: usize, out: &mut [u8]) -> usize
     reply.text
 }
 
-// The language has no exit status. Without an answer nothing, or not all of it, stands on standard output, and a line on standard error;
-// the launcher makes a status of that (RULES 7.8).
-fn main() {
+// What cannot be said on standard error can be said nowhere.
+fn say(rt: &impl Eprint, line: &str) {
+    let _ = rt.eprintln(line);
+}
+
+// Its status is 0 in any case. Without an answer nothing, or not all of it, stands on standard output, and a line on standard error; the
+// launcher makes a status of that (RULES 7.8).
+fn main(rt: HostRuntime) {
     let mut input = [0u8; INPUT];
-    let read = input::read(STDIN_FILENO, &mut input);
+    let read = input::read(&mut rt.stdin(), &mut input);
     let Input::Bytes(count) = read else {
-        io::write_all(
-            STDERR_FILENO,
-            b"mustorgyel: standard input could not be read to its end\n",
+        return say(
+            &rt,
+            "mustorgyel: standard input could not be read to its end",
         );
-        return;
     };
     let mut text = [0u8; TEXT];
     let bytes = answer_input(&input, count, &mut text);
-    if !io::write_all(STDOUT_FILENO, &text[..bytes]) {
-        io::write_all(
-            STDERR_FILENO,
-            b"mustorgyel: standard output could not be written\n",
-        );
+    if rt.write_all(&text[..bytes]).is_err() {
+        say(&rt, "mustorgyel: standard output could not be written")
     }
 }

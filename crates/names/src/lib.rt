@@ -5,6 +5,9 @@ ghost use Rattle.std.specs.Prelude.{◌+◌, ◌*◌, ◌≤◌, length, ◌≡�
 ghost use Rattle.names.specs.Names.{size_of, bytes_of};
 
 use input::Input;
+use std::io::{Error, ErrorKind, Read};
+use std::rt::Files;
+use std::{fs, str};
 
 // The most bytes that a path may have.
 pub const MOST_NAME: usize = 4095;
@@ -28,9 +31,9 @@ enum Byte {
 }
 
 // What was read and is not taken yet stands from window[0] up to window[1]. The last byte of all may lack its 0.
-fn next_byte(chunk: &mut [u8; CHUNK], window: &mut [usize; 2]) -> Byte {
+fn next_byte<R: Read>(reader: &mut R, chunk: &mut [u8; CHUNK], window: &mut [usize; 2]) -> Byte {
     if window[1] <= window[0] {
-        let read = input::read_once(libc::STDIN_FILENO, chunk);
+        let read = input::read_once(reader, chunk);
         let Input::Bytes(more) = read else {
             return Byte::Failed;
         };
@@ -53,13 +56,18 @@ fn take_byte(chunk: &[u8; CHUNK], window: &mut [usize; 2]) -> Byte {
     Byte::Is(chunk[at])
 }
 
-// The next name into the first places of a buffer.
-pub fn next(chunk: &mut [u8; CHUNK], window: &mut [usize; 2], name: &mut [u8]) -> Name
+// The next name of a reader into the first places of a buffer. The chunk and the window keep what was read ahead.
+pub fn next<R: Read>(
+    reader: &mut R,
+    chunk: &mut [u8; CHUNK],
+    window: &mut [usize; 2],
+    name: &mut [u8],
+) -> Name
     ensures { size_of result ≤ length name.new }
 {
     let mut n = 0;
     while n < name.len() {
-        let byte = next_byte(chunk, window);
+        let byte = next_byte(reader, chunk, window);
         match byte {
             Byte::Failed => return Name::Failed,
             Byte::End => return ended(n),
@@ -142,25 +150,32 @@ pub fn put_name(out: &mut [u8], name: &[u8]) -> usize
     at
 }
 
-pub fn read_file(path: &[u8], buffer: &mut [u8]) -> File
+// The first bytes of the file of a name. A path is text: of a name that is none there is nothing to be read.
+pub fn read_file<F: Files>(files: &F, path: &[u8], buffer: &mut [u8]) -> File
     ensures { bytes_of result ≤ length buffer.new }
 {
-    let fd = os::open_read(path);
-    if fd < 0 {
-        return not_there();
-    }
-    let read = input::read(fd, buffer);
-    libc::close(fd);
-    let Input::Bytes(count) = read else {
+    let Ok(path) = str::from_utf8(path) else {
         return File::Unreadable;
     };
-    File::Bytes(count)
+    match fs::open(files, path) {
+        Ok(file) => read_opened(file, buffer),
+        Err(error) => not_opened(&error),
+    }
 }
 
-fn not_there() -> File
+fn read_opened<R: Read + Drop>(mut file: R, buffer: &mut [u8]) -> File
+    ensures { bytes_of result ≤ length buffer.new }
+{
+    match input::read(&mut file, buffer) {
+        Input::Bytes(count) => File::Bytes(count),
+        Input::Failed => File::Unreadable,
+    }
+}
+
+fn not_opened(error: &Error) -> File
     ensures { bytes_of result ≡ 0 }
 {
-    if os::errno() == libc::ENOENT {
+    if error.kind() == ErrorKind::NotFound {
         return File::Missing;
     }
     File::Unreadable

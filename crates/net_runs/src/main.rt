@@ -5,122 +5,117 @@
 
 ghost use Rattle.std.specs.Prelude.{◌≤◌, length};
 
-fn main() {
-    let nets = read2();
-    let mut i: u16 = 0;
-    while i < nets {
-        judge_next();
-        i += 1;
+use rules::{Judged, Limits, Refusal};
+use std::io;
+use std::io::Read;
+
+fn main(rt: HostRuntime) -> io::Result<()> {
+    let mut reader = rt.stdin();
+    let nets = read2(&mut reader);
+    for _ in 0..nets {
+        judge_next(&rt, &mut reader)?;
     }
+    Ok(())
 }
 
 // The next net of the input. A column has room for one place more than a net may have.
-fn judge_next() {
-    let l = rules::Limits {
-        limit: read4(),
-        pin: read4(),
-        repeater: read1(),
+fn judge_next<R: Read>(rt: &impl Print, reader: &mut R) -> io::Result<()> {
+    let l = Limits {
+        limit: read4(reader),
+        pin: read4(reader),
+        repeater: read1(reader),
     };
     let mut parent = [0u16; 1026];
-    let parents = read_column2(&mut parent);
+    let parents = read_column2(reader, &mut parent);
     let mut wire = [0u32; 1026];
-    let wires = read_column4(&mut wire);
+    let wires = read_column4(reader, &mut wire);
     let mut kind = [0u8; 1026];
-    let kinds = read_column1(&mut kind);
+    let kinds = read_column1(reader, &mut kind);
     let mut pin = [0u32; 1026];
-    let pins = read_column4(&mut pin);
+    let pins = read_column4(reader, &mut pin);
     let mut polarity = [0u8; 1026];
-    let polarities = read_column1(&mut polarity);
-    tell(net::judge(
+    let polarities = read_column1(reader, &mut polarity);
+    let judged = net::judge(
         l,
         &parent[..parents],
         &wire[..wires],
         &kind[..kinds],
         &pin[..pins],
         &polarity[..polarities],
-    ));
+    );
+    tell(rt, judged)
 }
 
 // The line of a refusal.
-fn print_refusal(why: rules::Refusal) {
+fn print_refusal(rt: &impl Print, why: Refusal) -> io::Result<()> {
     let line = answer::refused_line(why);
     let text = line.text;
     let bytes = line.bytes;
-    io::write_all(1, &text[..bytes]);
+    rt.write_all(&text[..bytes])
 }
 
-fn tell(judged: rules::Judged) {
+fn tell(rt: &impl Print, judged: Judged) -> io::Result<()> {
     match judged {
-        rules::Judged::Sound => {
-            io::write_all(1, b"sound\n");
-        }
-        rules::Judged::Refused(r) => {
-            print_refusal(r);
-        }
+        Judged::Sound => rt.println("sound"),
+        Judged::Refused(why) => print_refusal(rt, why),
     }
 }
 
 // A column of one-byte values: its length, and so many values.
-fn read_column1(column: &mut [u8]) -> usize
+fn read_column1<R: Read>(reader: &mut R, column: &mut [u8]) -> usize
     ensures { result ≤ length column.old }
 {
-    let n = read_length(column.len());
-    let mut i: usize = 0;
-    while i < n {
-        column[i] = read1();
-        i += 1;
+    let n = read_length(reader, column.len());
+    for value in &mut column[..n] {
+        *value = read1(reader);
     }
     n
 }
 
 // Of two-byte values.
-fn read_column2(column: &mut [u16]) -> usize
+fn read_column2<R: Read>(reader: &mut R, column: &mut [u16]) -> usize
     ensures { result ≤ length column.old }
 {
-    let n = read_length(column.len());
-    let mut i: usize = 0;
-    while i < n {
-        column[i] = read2();
-        i += 1;
+    let n = read_length(reader, column.len());
+    for value in &mut column[..n] {
+        *value = read2(reader);
     }
     n
 }
 
 // Of four-byte values.
-fn read_column4(column: &mut [u32]) -> usize
+fn read_column4<R: Read>(reader: &mut R, column: &mut [u32]) -> usize
     ensures { result ≤ length column.old }
 {
-    let n = read_length(column.len());
-    let mut i: usize = 0;
-    while i < n {
-        column[i] = read4();
-        i += 1;
+    let n = read_length(reader, column.len());
+    for value in &mut column[..n] {
+        *value = read4(reader);
     }
     n
 }
 
-fn read_length(room: usize) -> usize
+fn read_length<R: Read>(reader: &mut R, room: usize) -> usize
     ensures { result ≤ room }
 {
-    let n = read2() as usize;
+    let n = read2(reader) as usize;
     if n < room { n } else { room }
 }
 
 // The next byte of the input, and 0 past its end.
-fn read1() -> u8 {
+fn read1<R: Read>(reader: &mut R) -> u8 {
     let mut b = [0u8; 1];
-    io::read_full(0, &mut b);
+    input::read(reader, &mut b);
     b[0]
 }
 
-fn read2() -> u16 {
-    let high = read1() as u16;
-    let low = read1() as u16;
+fn read2<R: Read>(reader: &mut R) -> u16 {
+    let high = read1(reader) as u16;
+    let low = read1(reader) as u16;
     high * 256 + low
 }
 
-fn read4() -> u32 {
-    let high = read2() as u32;
-    let low = read2() as u32;
+fn read4<R: Read>(reader: &mut R) -> u32 {
+    let high = read2(reader) as u32;
+    let low = read2(reader) as u32;
     high * 65536 + low
 }

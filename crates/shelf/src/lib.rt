@@ -7,8 +7,9 @@ ghost use Rattle.audit_line.specs.Lines.{most_line};
 ghost use Rattle.whole.specs.Whole.{NetHeld};
 
 use audit_line::{Audited, Missing};
-use libc::{STDERR_FILENO, STDOUT_FILENO};
-use names::{File, Name};
+use names::Name;
+use std::io::{Read, Write};
+use std::rt::Files;
 use tally::{Found, Tally};
 
 // A proved loop has to end. No shelf has so many records.
@@ -61,14 +62,20 @@ fn missing(which: Missing, out: &mut [u8]) -> Audited
 }
 
 // A net file that was read, and the placement file beside it.
-fn look_beside(name: &[u8], net: &[u8], count: usize, out: &mut [u8]) -> Audited
+fn look_beside<F: Files>(
+    files: &F,
+    name: &[u8],
+    net: &[u8],
+    count: usize,
+    out: &mut [u8],
+) -> Audited
     requires { (length name.now ≤ 4096) × NetHeld net.now count × (most_line ≤ length out.old) }
     ensures { result.bytes ≤ length out.new }
 {
     let mut path = [0u8; PATH];
     let size = names::beside(name, &mut path);
     let mut placement = [0u8; PLACEMENT];
-    let read = names::read_file(&path[..size], &mut placement);
+    let read = names::read_file(files, &path[..size], &mut placement);
     if names::missing(read) {
         return missing(Missing::NoPlacement, out);
     }
@@ -80,12 +87,12 @@ fn look_beside(name: &[u8], net: &[u8], count: usize, out: &mut [u8]) -> Audited
 }
 
 // What is said of a record.
-fn look(name: &[u8], out: &mut [u8]) -> Audited
+fn look<F: Files>(files: &F, name: &[u8], out: &mut [u8]) -> Audited
     requires { (length name.now ≤ 4096) × (most_line ≤ length out.old) }
     ensures { result.bytes ≤ length out.new }
 {
     let mut net = [0u8; NET];
-    let read = names::read_file(name, &mut net);
+    let read = names::read_file(files, name, &mut net);
     if names::missing(read) {
         return missing(Missing::NoNet, out);
     }
@@ -93,32 +100,38 @@ fn look(name: &[u8], out: &mut [u8]) -> Audited
         return missing(Missing::NetUnreadable, out);
     }
     let count = names::count(read);
-    look_beside(name, &net, count, out)
+    look_beside(files, name, &net, count, out)
 }
 
-// A record's line.
-fn record(name: &[u8]) -> Step
+// A record's line, written as soon as it is known: an output that takes no more ends the audit there.
+fn record<F: Files, O: Write>(files: &F, output: &mut O, name: &[u8]) -> Step
     requires { length name.now ≤ 4096 }
 {
     let mut line = [0u8; LINE];
     let at = names::put_name(&mut line, name);
     let mut said = [0u8; SAID];
-    let audited = look(name, &mut said);
+    let audited = look(files, name, &mut said);
     let bytes = audited.bytes;
     let found = audited.found;
     let size = answer::put(&mut line, at, &said[..bytes]);
-    if !io::write_all(STDOUT_FILENO, &line[..size]) {
-        return Step::NoOutput;
+    match output.write_all(&line[..size]) {
+        Ok(()) => Step::Found(found),
+        Err(_) => Step::NoOutput,
     }
-    Step::Found(found)
 }
 
-fn next(chunk: &mut [u8; names::CHUNK], window: &mut [usize; 2]) -> Step {
+fn next<F: Files, N: Read, O: Write>(
+    files: &F,
+    listed: &mut N,
+    output: &mut O,
+    chunk: &mut [u8; names::CHUNK],
+    window: &mut [usize; 2],
+) -> Step {
     let mut name = [0u8; NAME];
-    let found = names::next(chunk, window, &mut name);
+    let found = names::next(listed, chunk, window, &mut name);
     if names::stands(found) {
         let size = names::size(found);
-        return record(&name[..size]);
+        return record(files, output, &name[..size]);
     }
     no_name(found)
 }
@@ -132,39 +145,44 @@ fn no_name(found: Name) -> Step {
     }
 }
 
-// The line of a terminal is written over, now and then.
-fn show_progress(done: u64, total: &[u8]) {
+// The line of a terminal is written over, now and then. What cannot be shown there is not shown.
+fn show_progress<P: Write>(progress: &mut P, done: u64, total: &[u8]) {
     if (total.len() == 0) | (done % 16 != 0) {
         return;
     }
-    io::write_all(STDERR_FILENO, b"\r");
-    io::print_decimal(STDERR_FILENO, done);
-    io::write_all(STDERR_FILENO, b" of ");
-    io::write_all(STDERR_FILENO, total);
-    io::write_all(STDERR_FILENO, b" records");
+    let _ = write!(progress, "\r{done} of ");
+    let _ = progress.write_all(total);
+    let _ = progress.write_all(b" records");
 }
 
-fn put_tally(tally: Tally) -> Ended {
+fn put_tally<O: Write>(output: &mut O, tally: Tally) -> Ended {
     let mut line = [0u8; 192];
     let size = tally::tally_line(tally, &mut line);
-    if !io::write_all(STDOUT_FILENO, &line[..size]) {
-        return Ended::NoOutput;
+    match output.write_all(&line[..size]) {
+        Ok(()) => Ended::Status(tally::status(tally)),
+        Err(_) => Ended::NoOutput,
     }
-    Ended::Status(tally::status(tally))
 }
 
-fn close(last: Step, tally: Tally) -> Ended {
+fn close<O: Write>(output: &mut O, last: Step, tally: Tally) -> Ended {
     match last {
         Step::Found(_) => Ended::TooMany,
-        Step::End => put_tally(tally),
+        Step::End => put_tally(output, tally),
         Step::NoOutput => Ended::NoOutput,
         Step::NoNames => Ended::NoNames,
         Step::LongName => Ended::LongName,
     }
 }
 
-// Every name on standard input. What total says goes into the progress that is shown; where it is empty none is.
-pub fn audit(total: &[u8]) -> Ended {
+// Every name that is listed, its files among the files, its line on the output. What total says goes into the progress that is shown;
+// where it is empty none is.
+pub fn audit<F: Files, N: Read, O: Write, P: Write>(
+    files: &F,
+    listed: &mut N,
+    output: &mut O,
+    progress: &mut P,
+    total: &[u8],
+) -> Ended {
     let mut chunk = [0u8; names::CHUNK];
     let mut window = [0usize; 2];
     let mut tally = Tally {
@@ -176,12 +194,12 @@ pub fn audit(total: &[u8]) -> Ended {
     };
     let mut left = MOST_RECORDS;
     while left > 0 {
-        let step = next(&mut chunk, &mut window);
+        let step = next(files, listed, output, &mut chunk, &mut window);
         let Step::Found(found) = step else {
-            return close(step, tally);
+            return close(output, step, tally);
         };
         tally = tally::count(tally, found);
-        show_progress(tally.records, total);
+        show_progress(progress, tally.records, total);
         left -= 1;
     }
     Ended::TooMany
