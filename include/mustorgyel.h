@@ -16,8 +16,8 @@
  * Stack: the deeper the net, the more, about 150 bytes for each node on the longest way down and 51,000 besides. Measured at most:
  * 198,000 bytes, on a chain of 1,024 nodes without entries. A thread with 256 KiB of stack is enough.
  *
- * Link with librouter.a, which `rt staticlib router` writes to target/staticlib/ for x86-64 and for nothing else. It calls memcpy and
- * memset, no more:
+ * Link with librouter.a, which `tools/archives router` proves and writes to target/staticlib/, for x86-64 and for nothing else. It calls
+ * memcpy and memset, no more:
  *
  *     cc -I include program.c target/staticlib/librouter.a -o program
  */
