@@ -59,6 +59,7 @@ module _ (τ : Cell) (eq : τ.cu ≡ τ.cb + τ.D) (pos : 1 ≤ τ.D) where
 
   split : (w at b g : ℕ) (gs : List ℕ) {rs : List ℕ} (os : List ℕ) → Joins (g ∷ gs) rs os → GoodW τ w at b os → Split w at b g gs os
   unfolding hands_up
+  split w at b g gs {rs = rs} [] x good = elim x [ ]
   split w at b g gs (o ∷ os) (given {a = rs} h) good = record { k = 0; rs = rs; ys = os; many = omega arith; low = omega (arith, good.1); good = good.2; top = refl; keeps = h }
   split w at b g gs (o ∷ os) (added h) good =
       let s = split w o τ.cb g gs os h good.2 in

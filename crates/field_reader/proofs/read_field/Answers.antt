@@ -1,0 +1,14 @@
+-- `read_field` lends the bytes from the place on to `field_in`.
+use mathlib.Core.Path.{ap, ◌∙◌}
+use native.Mathlib.Omega.{arith}
+use lib.ListN.{length-drop}
+use borrow.Author.Rules.{rules}
+use Rattle.field.specs.Format.{field_in}
+use Rattle.field.proofs.Reading.{short, part_drop}
+use Rattle.field_reader.proofs.read_field.Goals as goal
+
+pub returns-then-s-at : goal.returns-then-s-at
+returns-then-s-at c = short _ _ (simp length-drop (omega arith))
+
+pub returns : goal.returns
+returns c = c.field_in.ensures ∙ ap (field_in c.args.at) (part_drop c.args.s.now c.args.at)

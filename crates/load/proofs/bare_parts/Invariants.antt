@@ -1,0 +1,13 @@
+-- `load::bare_parts` meets its contract. The invariant: the nodes before i are done.
+use mathlib.Core.Path.{refl}
+use Prim.Native.Nat.{◌≤◌, ◌-◌}
+use native.Mathlib.Omega.{arith}
+use lib.ListN.{length}
+use Rattle.load.proofs.Parts.{Bare, bare_none, bare_more, bare_all}
+use Rattle.load.proofs.bare_parts.Given as goal
+
+abbrev pub invariant-loop-i : goal.invariant-loop-i
+invariant-loop-i l = (l.i ≤ length l.wire) × Bare l.wire l.kind l.pin l.own l.shut l.i
+
+abbrev pub decreases-loop-i : goal.decreases-loop-i
+decreases-loop-i l = length l.wire - l.i

@@ -1,0 +1,6 @@
+-- `unless` is the definitions' own.
+use borrow.Author.Rules.{rules}
+use Rattle.placement_reader.proofs.unless.Goals as goal
+
+pub returns : goal.returns
+returns c = simp c.if-ok.false

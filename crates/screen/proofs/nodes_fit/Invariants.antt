@@ -1,0 +1,16 @@
+-- `nodes_fit` looks at every node: where it answers yes each one fits.
+use Prim.Native.Nat.{◌-◌}
+use mathlib.Core.Path.{refl}
+use lib.ListN.{length}
+use native.Mathlib.Omega.{arith}
+use borrow.Author.Rules.{rules}
+use Rattle.rules.specs.Net.{net}
+use Rattle.screen.specs.Screened.{Every, node_fits}
+use Rattle.screen.proofs.Passing.{every_start, every_next, every_end}
+use Rattle.screen.proofs.nodes_fit.Given as goal
+
+abbrev pub invariant-loop-i : goal.invariant-loop-i
+invariant-loop-i l = Every (node_fits (net l.l l.parent l.wire l.kind l.pin l.polarity)) 1 l.i l.fine
+
+abbrev pub decreases-loop-i : goal.decreases-loop-i
+decreases-loop-i l = length l.parent - l.i
