@@ -13,11 +13,11 @@
  * The answer is a number alone: MUSTORGYEL_LEGAL (0), or that of the first fault, looked for in the net file, then in the placement
  * file, then in the placement as it stands on the net.
  *
- * Stack: the deeper the net, the more, about 150 bytes for each node on the longest way down and 51,000 besides. Measured at most:
- * 198,000 bytes, on a chain of 1,024 nodes without entries. A thread with 256 KiB of stack is enough.
+ * Stack: the deeper the net, the more, about 150 bytes for each node on the longest way down and 51,000 besides. Measured at most, as an
+ * older kit (rattle-kit-5b) compiled it: 198,000 bytes, on a chain of 1,024 nodes without entries. A thread with 256 KiB of stack is enough.
  *
- * Link with librouter.a, which `rt staticlib router` writes to target/staticlib/ for x86-64 and for nothing else. It calls memcpy and
- * memset, no more:
+ * Link with librouter.a, which `tools/archives router` proves and writes to target/staticlib/, for x86-64 and for nothing else. It calls
+ * memcpy and memset, no more:
  *
  *     cc -I include program.c target/staticlib/librouter.a -o program
  */

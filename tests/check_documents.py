@@ -69,10 +69,16 @@ def gaps():
         last = here
 
 
+def is_made(file):
+    """What `rt` keeps in a crate's out/."""
+    parts = file.relative_to(ROOT).parts
+    return parts[0] == "crates" and parts[2:3] == ("out",)
+
+
 def texts():
     """Every file that may cite a paragraph."""
     folders = [ROOT / name for name in ("bench", "crates", "desk", "docs", "examples", "include", "tests")]
-    files = [file for folder in folders for file in sorted(folder.rglob("*")) if file.is_file()]
+    files = [file for folder in folders for file in sorted(folder.rglob("*")) if not is_made(file) and file.is_file()]
     for file in [ROOT / "README.md", ROOT / "mustorgyel", *files]:
         try:
             yield file, file.read_text()
@@ -106,7 +112,7 @@ def wrong_map():
     """Every crate stands on the map once, above all that it stands on."""
     drawn = re.search(r"^```map\n(.*?)^```", (ROOT / "docs/ARCHITECTURE.md").read_text(), re.M | re.S).group(1)
     rows = [row[row.find("│"):] for row in drawn.splitlines()]
-    listed = re.findall(r"^(\w+):(.*)$", (ROOT / "crates.txt").read_text(), re.M)
+    listed = re.findall(r"^(\w+)(?: staticlib)?:(.*)$", (ROOT / "crates.txt").read_text(), re.M)
     names = {name for name, _ in listed}
     at = [(name, number) for number, row in enumerate(rows) for name in re.findall(r"\w+", row) if name in names]
     line = dict(at)
@@ -135,20 +141,20 @@ def wrong_numbers():
 
 # ---------------------------------------------------------------- files of definitions
 
-USE = re.compile(r"^(?:ghost )?use Rattle·(\w+?)(?:·specs)?\.(?:specs\.)+(\w+)(?:\.\{([^}]*)\}| as (\w+))?", re.M)
+USE = re.compile(r"^(?:ghost )?use Rattle\.(\w+)\.specs\.(\w+)(?:\.\{([^}]*)\}| as (\w+))?", re.M)
 
 
 def uses(text):
-    """(crate, file, the names taken from it) of each line of `use`; types of the code are not among them."""
+    """(crate, file, the names taken from it) of each line of `use`; types of the code and what stands in the kit are not among them."""
     for crate, file, names, whole in USE.findall(text):
-        if file != "declared":
+        if file != "declared" and (ROOT / "crates" / crate).is_dir():
             taken = [name.split(" as ")[-1].strip() for name in names.split(",")] if names else [whole]
             yield crate, file, taken
 
 
 def contract(source, function):
     """The lines that a function ensures."""
-    head = re.search(rf'^(?:pub )?(?:extern "C" )?fn {function}\(.*?^\{{', source, re.M | re.S).group(0)
+    head = re.search(rf"^(?:pub )?fn {function}\b.*?^\{{", source, re.M | re.S).group(0)
     return "\n".join(line for line in head.splitlines() if "ensures" in line)
 
 
@@ -191,7 +197,7 @@ def misplaced_files():
 
 def unknown_names():
     """Names of definitions, laws and functions that docs/DEFINITIONS.md gives and that stand nowhere in the crates."""
-    files = [file for kind in ("rt", "antt") for file in sorted(ROOT.glob(f"crates/**/*.{kind}"))]
+    files = [file for kind in ("rt", "antt") for file in sorted(ROOT.glob(f"crates/**/*.{kind}")) if not is_made(file)]
     known = {word for file in files for word in re.findall(r"[\w-]+", file.read_text())}
     quoted = [name for name in re.findall(r"`([^`]+)`", DEFINITIONS) if "/" not in name]
     names = {part for name in quoted for part in re.findall(r"[\w-]{2,}", name)}

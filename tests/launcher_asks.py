@@ -19,7 +19,7 @@ LAUNCHER = ROOT / "mustorgyel"
 EXAMPLE = ROOT / "examples/wire-14.net"
 PRINTED = b"least 1\nwire 1 offset 6 drives 10\nsource drives 10\n"
 KIT = pathlib.Path(os.environ.get("RATTLE_HOME") or pathlib.Path(shutil.which("rt")).resolve().parent.parent)
-HANG = 120  # seconds; a build of small crates takes ten
+HANG = 300  # seconds; a build of small crates takes forty
 wrong = 0
 asked = 0
 

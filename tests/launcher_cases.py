@@ -115,6 +115,9 @@ def help_page():
     expect(status == 0 and numbers == [str(n) for n in range(1, 14)], "--help explains the refusals 1 to 13", out)
 
 
+HEAD = "#![tactic(auto)]\n\n"
+
+
 class Small:
     """A folder with this launcher, and two programs that print one text each, over one crate; another crate is no part of them."""
     REFUSED = "refused 1 place 0\n"
@@ -125,9 +128,10 @@ class Small:
         self.target = folder / "target"
         shutil.copy(LAUNCHER, folder)
         shutil.copytree(ROOT / "desk", folder / "desk")
-        (folder / "crates.txt").write_text("# small\nother: base # not the programs'\nmustorgyel: base io libc\nbase:\ndesk: base io libc\n")
+        (folder / "crates.txt").write_text("# small\nother: base # not the programs'\nmustorgyel: base\nbase:\ndesk: base\n")
         for crate in ("base", "other"):
-            self.write(crate, "lib.rt", "pub fn seven() -> usize {\n    7\n}\n")
+            # of a text that no other folder has: `rt` takes a library that it built of the same text anywhere on the machine
+            self.write(crate, "lib.rt", f"// {folder}\n{HEAD}pub fn seven() -> usize {{\n    7\n}}\n")
         self.prints(self.REFUSED)
         self.desk_prints(self.LEGAL, "0")
 
@@ -139,14 +143,15 @@ class Small:
 
     def prints(self, text):
         quoted = text.replace("\n", "\\n")
-        self.write("mustorgyel", "main.rt", f'fn main() {{\n    let text = b"{quoted}";\n    io::write_all(libc::STDOUT_FILENO, text);\n}}\n')
-        (self.folder / "crates/mustorgyel/stdout").write_text(text)
+        self.write("mustorgyel", "main.rt", f'{HEAD}use std::io;\nuse std::io::Write;\n\nfn main(rt: HostRuntime) -> io::Result<()> {{\n'
+                                            f'    rt.stdout().write_all(b"{quoted}")\n}}\n')
 
     def desk_prints(self, text, status):
         quoted = text.replace("\n", "\\n")
-        self.write("desk", "main.rt", f'fn main() {{\n    let text = b"{quoted}";\n    io::write_all(libc::STDOUT_FILENO, text);\n'
-                                      f'    let status = b"{status}";\n    io::write_all(3, status);\n}}\n')
-        (self.folder / "crates/desk/stdout").write_text(text)
+        self.write("desk", "main.rt", f'{HEAD}use std::fs::OpenOptions;\nuse std::io;\nuse std::io::Write;\n\n'
+                                      f'fn main(rt: HostRuntime) -> io::Result<()> {{\n    rt.stdout().write_all(b"{quoted}")?;\n'
+                                      f'    let mut out = OpenOptions::new().write(true).open(&rt, "/dev/fd/3")?;\n'
+                                      f'    out.write_all(b"{status}")\n}}\n')
 
     def ask(self, *words, **more):
         return ask(*words, folder=self.folder, cwd="/", **more)
@@ -187,7 +192,11 @@ def rebuilds(small):
         version = small.ask("--version")
         expect(b"proofs: not checked here" in version[1], "--version of what was not built", version)
         done = small.ask()
-        expect(done[0] == 1 and small.proved(done) == ALL[number:number + 1], "a deleted program: nothing else is proved again", done)
+        expect(done == (1, small.REFUSED.encode(), ""), "a deleted program: nothing is proved again", done)
+        (small.target / "bin" / name).unlink()
+        (small.folder / "crates" / name / "out" / name).unlink()
+        done = small.ask()
+        expect(done[0] == 1 and small.proved(done) == ALL[number:number + 1], "the program that `rt` built deleted too: nothing else is proved again", done)
     small.write("other", "lib.rt", "pub fn eight() -> usize {\n    8\n}\n")
     done = small.ask()
     expect(done == (1, small.REFUSED.encode(), ""), "a change in another crate", done)
@@ -197,11 +206,13 @@ def rebuilds(small):
     done = small.ask()
     answers("a changed program", done, b"least 0\nsource drives 7\n")
     expect(small.proved(done) == ALL[1:2], "a changed program is proved", done)
-    # Somebody builds other sources by `rt` and takes them back: the program in target/ is not that of the sources.
+    # Somebody builds other sources by `rt` and takes them back: the program that `rt` built is not that of the sources.
     small.prints(small.REFUSED)
-    subprocess.run(["rt", "check", "mustorgyel"], cwd=small.folder, capture_output=True, check=True)
+    subprocess.run(["rt", "run"], cwd=small.folder / "crates/mustorgyel", stdin=subprocess.DEVNULL, capture_output=True, check=True)
     small.prints("least 0\nsource drives 7\n")
     answers("sources that came back", small.ask(), b"least 0\nsource drives 7\n")
+    (small.target / "bin/mustorgyel").unlink()
+    answers("sources that came back, and no program of theirs", small.ask(), b"least 0\nsource drives 7\n")
 
 
 def no_building(small):

@@ -16,7 +16,7 @@ import sys
 
 WORD = re.compile(r'[^\s(){}.;,@"«»`]+')
 DECLARED = re.compile(r"(?m)^(?:(?:abbrev|unfoldable|private|pub|data|record|ruleset) +)*([^\s(){}.;,@\"«»]+)(?: *\{[^}\n]*\}| *\([^)\n]*\))* *:")
-FIELDS = re.compile(r"(?m)^  (?:pub +)?([^\s(){}.;,@\"«»=]+(?: +[^\s(){}.;,@\"«»=:]+)*) *: ")
+FIELDS = re.compile(r"(?m)^ {2,}(?:(?:abbrev|unfoldable|pub|data|record) +)*([^\s(){}.;,@\"«»=]+(?: +[^\s(){}.;,@\"«»=:]+)*)(?: *\{[^}\n]*\}| *\([^)\n]*\))* *:(?= |$)")
 CLAUSE = re.compile(r"ghost use [^;]*;|(?:requires|ensures|ghost)\b[^{};]*\{")
 
 

@@ -5,7 +5,7 @@ use lib.ListN.{length}
 use native.Mathlib.Omega.{arith}
 use Rattle.rules.specs.Net.{Net, places}
 use Rattle.frontier.specs.Cell.{Cell}
-use mathlib.Core.Bool.{Bool, true, false, not}
+use mathlib.Core.Bool.{Bool, true, false}
 use Rattle.buffers.specs.Going.{Tables, Going, Lost, Tried, can, cannot}
 
 -- the lengths of the tables are as they were
@@ -28,10 +28,10 @@ as_number false = 0
 apart : {r : Bool} → r ≡ true → r ≡ false → ⊥
 apart p q = let z : ◌≡◌ {A = ℕ} 1 0 = ap as_number (sym p ∙ q) in omega arith
 
-pub tried_true : {τ : Cell} {n : Net} {L : ℕ → ℕ} {t : Tables} {b i : ℕ} {r : Bool} → Tried τ n L t b i r → not r ≡ false → Going τ n L t b i
+pub tried_true : {τ : Cell} {n : Net} {L : ℕ → ℕ} {t : Tables} {b i : ℕ} {r : Bool} → Tried τ n L t b i r → r ≡ true → Going τ n L t b i
 tried_true (can g) e = g
-tried_true (cannot l) e = absurd (apart refl e)
+tried_true (cannot l) e = absurd (apart e refl)
 
-pub tried_false : {τ : Cell} {n : Net} {L : ℕ → ℕ} {t : Tables} {b i : ℕ} {r : Bool} → Tried τ n L t b i r → not r ≡ true → Lost τ n L
-tried_false (can g) e = absurd (apart e refl)
+pub tried_false : {τ : Cell} {n : Net} {L : ℕ → ℕ} {t : Tables} {b i : ℕ} {r : Bool} → Tried τ n L t b i r → r ≡ false → Lost τ n L
+tried_false (can g) e = absurd (apart refl e)
 tried_false (cannot l) e = l

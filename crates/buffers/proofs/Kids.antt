@@ -46,6 +46,7 @@ kid_first i js h e f (there b) = f b
 
 kids_by : (n : Net) (v l : ℕ) → l ≤ places n → (j : ℕ) → Among j (wires_of (hanging n l v)) → Kid n (places n - l) v j
 unfolding hanging
+kids_by n v zero h j a = elim a [ ]
 kids_by n v (suc l) h j a = elim (ℕ_discrete (parent n (places n - suc l)) v) [
   | yes e ↦ kid_first (places n - suc l) (wires_of (hanging n l v)) (omega arith) e (λ b. kid_on (places n - suc l) (omega arith) (kids_by n v l (omega arith) j b))
       (subst (λ (x : List ℕ). Among j x) (hung_wires n (places n - suc l) (hanging n l (places n - suc l)) (hanging n l v)) (rw (eq-eqb (parent n (places n - suc l)) v e) at a))

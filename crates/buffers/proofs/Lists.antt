@@ -16,6 +16,7 @@ each_of P [] h = tt
 each_of P (j ∷ js) h = (h j here, each_of P js (λ i a. h i (there a)))
 
 pub each_at : (P : ℕ → Type 0) (js : List ℕ) → Each P js → (j : ℕ) → Among j js → P j
+each_at P [] e j a = elim a [ ]
 each_at P (i ∷ js) e j here = e.0
 each_at P (i ∷ js) e j (there a) = each_at P js e.1 j a
 
@@ -24,6 +25,7 @@ sum_same f g [] h = refl
 sum_same f g (j ∷ js) h = omega (arith, h j here, sum_same f g js (λ i a. h i (there a)))
 
 pub sum_least : (f : ℕ → ℕ) (js : List ℕ) (j : ℕ) → Among j js → f j ≤ sum_l f js
+sum_least f [] j a = elim a [ ]
 sum_least f (i ∷ js) j here = omega arith
 sum_least f (i ∷ js) j (there a) = omega (arith, sum_least f js j a)
 
@@ -60,5 +62,6 @@ chain_one N links k (j ∷ js) (i ∷ is) c d =
 
 -- one of them changes
 pub sum_set : (f g : ℕ → ℕ) (js : List ℕ) (j : ℕ) → Rises js → Among j js → ((i : ℕ) → (i ≡ j → ⊥) → g i ≡ f i) → sum_l g js + f j ≡ sum_l f js + g j
+sum_set f g [] j r a h = elim a [ ]
 sum_set f g (i ∷ js) j r here h = omega (arith, sum_same g f js (λ k a. h k (λ e. omega (arith, each_at (λ k. j < k) js r.0 k a))))
 sum_set f g (i ∷ js) j r (there a) h = omega (arith, sum_set f g js j r.1 a h, h i (λ e. omega (arith, each_at (λ k. i < k) js r.0 j a)))

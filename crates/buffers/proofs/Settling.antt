@@ -12,7 +12,6 @@ use Rattle.rules.specs.Tree.{under}
 use Rattle.rules.specs.Legal.{Each}
 use Rattle.rules.specs.Sound.{SoundNet}
 use Rattle.frontier.specs.Cell.{Cell}
-use Rattle.frontier.specs.Cert.{sum}
 use Rattle.relief.specs.Pieces.{piece, bare, topped}
 use Rattle.relief.proofs.Pieces.{T-ceil}
 use Rattle.relief.specs.Marks.{Divides, light, heavy, Relieved, Marks, hands, out, Marked, pin-over, wires-over}

@@ -1,6 +1,5 @@
 -- The tables on the way up: which wires are joined to their parents, and which nodes have their load.
 use Rattle.std.specs.Prelude.{ℕ, suc, ◌-◌, ◌≤◌, ◌<◌, ◌≡◌, Bool, true, false, List, length, get_or}
-use Rattle.std.specs.Borrow.{Bor}
 use Rattle.rules.specs.Figures.{most_places}
 use Rattle.rules.specs.Net.{Net, places, wire}
 use Rattle.rules.specs.Tree.{hanging}
@@ -27,9 +26,6 @@ pub record Tables : Type 0 where
 
 abbrev pub tables : List ℕ → List ℕ → List ℕ → List ℕ → Tables
 tables below tops on links = record { below = below; tops = tops; on = on; links = links }
-
-abbrev pub tables_at : Bor (List ℕ) → Bor (List ℕ) → Bor (List ℕ) → Bor (List ℕ) → Tables
-tables_at below tops on links = tables below.now tops.now on.now links.now
 
 abbrev pub marks_of : List ℕ → List ℕ → Marks
 marks_of below on = record { load = λ i. get_or below i 0; on = λ i. get_or on i 0 }

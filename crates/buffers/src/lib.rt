@@ -11,7 +11,7 @@ ghost use Rattle.relief.specs.Pieces;
 ghost use Rattle.relief.specs.Pieces.{most_piece, bare};
 ghost use Rattle.buffers.specs.Chain.{Chain, Chained, Heaviest};
 ghost use Rattle.buffers.specs.Easing.{Loaded, Eased};
-ghost use Rattle.buffers.specs.Going.{leads_in, Led, tables, tables_at, Going, Tried, AtNode, AtWire};
+ghost use Rattle.buffers.specs.Going.{leads_in, Led, tables, Going, Tried, AtNode, AtWire};
 
 use states::Cell;
 
@@ -92,8 +92,8 @@ fn ease_node(
     links: &[u16],
     i: usize,
 ) -> bool
-    requires { CellOk c × ((n : Net) × (L : ℕ → ℕ) × AtNode (model_of c) kind.now pin.now (tables_at below tops on links) i n L) }
-    ensures { (n : Net) (L : ℕ → ℕ) → AtNode (model_of c) kind.now pin.now (tables_at below.entry tops.entry on.entry links.entry) i n L → Tried (model_of c) n L (tables_at below.exit tops.exit on.exit links.entry) (suc i) i result }
+    requires { CellOk c × ((n : Net) × (L : ℕ → ℕ) × AtNode (model_of c) kind.now pin.now (tables below.old tops.old on.old links.now) i n L) }
+    ensures { (n : Net) (L : ℕ → ℕ) → AtNode (model_of c) kind.now pin.now (tables below.old tops.old on.old links.now) i n L → Tried (model_of c) n L (tables below.new tops.new on.new links.now) (suc i) i result }
 {
     let own = kind[i];
     if own == 1 {
@@ -158,8 +158,8 @@ pub fn ascend(
     on: &mut [u8],
     links: &mut [u16],
 ) -> bool
-    requires { CellOk c × SoundNet (net_at (limits_of c) parent wire kind pin polarity) × Led (net_at (limits_of c) parent wire kind pin polarity) leads.now × Going (model_of c) (net_at (limits_of c) parent wire kind pin polarity) (leads_in leads.now) (tables_at below tops on links) (length parent.now) (length parent.now) }
-    ensures { Tried (model_of c) (net_at (limits_of c) parent.entry wire.entry kind.entry pin.entry polarity.entry) (leads_in leads.now) (tables_at below.exit tops.exit on.exit links.exit) 1 0 result }
+    requires { CellOk c × SoundNet (net_at (limits_of c) parent wire kind pin polarity) × Led (net_at (limits_of c) parent wire kind pin polarity) leads.now × Going (model_of c) (net_at (limits_of c) parent wire kind pin polarity) (leads_in leads.now) (tables below.old tops.old on.old links.old) (length parent.now) (length parent.now) }
+    ensures { Tried (model_of c) (net_at (limits_of c) parent.entry wire.entry kind.entry pin.entry polarity.entry) (leads_in leads.now) (tables below.new tops.new on.new links.new) 1 0 result }
 {
     let mut i = parent.len();
     while 1 < i {

@@ -26,7 +26,6 @@ use Rattle.rules.proofs.Numbers as rules
 use Rattle.columns.specs.Columns.{room_in}
 use Rattle.standing.specs.Stands.{stood}
 use Rattle.finish.specs.declared.Finished.{Finished}
-use Rattle.finish.specs.declared.Finished.TheVariants.{Refused}
 use Rattle.finish.specs.Answer as answer
 use Rattle.finish.specs.Answer.{half_judged, Outcome, Answered, finished_number, finished_count}
 

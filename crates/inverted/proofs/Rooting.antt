@@ -13,7 +13,7 @@ use Rattle.rules.specs.Tree.{tree}
 use Rattle.rules.specs.Legal.{Legal, Least, NoneLegal}
 use Rattle.rules.specs.Sound.{SoundNet}
 use Rattle.frontier.specs.Cell as model
-use Rattle.frontier.specs.Plan.{plan_of, count, Settled}
+use Rattle.frontier.specs.Plan.{plan_of, Settled}
 use Rattle.frontier.specs.Frontier.{State, lost, has, Acc, fail, all, merge, acc, close, width}
 use Rattle.frontier.specs.Frontier as frontier
 use Rattle.frontier.specs.Placed.{placed}

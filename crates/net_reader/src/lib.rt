@@ -2,7 +2,7 @@
 #![tactic(auto)]
 
 ghost use Rattle.std.specs.Prelude.{◌≡◌, ◌≤◌, min};
-ghost use Rattle.rules.specs.Net.{net_at, node, unlimited};
+ghost use Rattle.rules.specs.Net.{net_at, node, unlimited, net};
 ghost use Rattle.field.specs.Listed.{listed};
 ghost use Rattle.net_file.specs.NetFile.{columns_of, room, laid_over, ReadNet};
 
@@ -23,8 +23,8 @@ fn fill(
     pin: &mut [u32],
     polarity: &mut [u8],
 )
-    requires { (n ≤ 1025) × (n ≤ room (net_at unlimited parent wire kind pin polarity)) }
-    ensures { net_at unlimited parent.exit wire.exit kind.exit pin.exit polarity.exit ≡ laid_over (net_at unlimited parent.entry wire.entry kind.entry pin.entry polarity.entry) 0 (columns_of unlimited (listed (node (net_at unlimited parents.entry wires.entry kinds.entry pins.entry polarities.entry)) n 0)) }
+    requires { (n ≤ 1025) × (n ≤ room (net unlimited parent.old wire.old kind.old pin.old polarity.old)) }
+    ensures { net unlimited parent.new wire.new kind.new pin.new polarity.new ≡ laid_over (net unlimited parent.old wire.old kind.old pin.old polarity.old) 0 (columns_of unlimited (listed (node (net_at unlimited parents.entry wires.entry kinds.entry pins.entry polarities.entry)) n 0)) }
 {
     let mut i: usize = 0;
     while i < n {
@@ -59,7 +59,7 @@ pub fn read_net(
     pin: &mut [u32],
     polarity: &mut [u8],
 ) -> NetRead
-    ensures { ReadNet s.now (net_at unlimited parent.entry wire.entry kind.entry pin.entry polarity.entry) (net_at unlimited parent.exit wire.exit kind.exit pin.exit polarity.exit) result }
+    ensures { ReadNet s.now (net unlimited parent.old wire.old kind.old pin.old polarity.old) (net unlimited parent.new wire.new kind.new pin.new polarity.new) result }
 {
     let mut parents = [0u16; 1025];
     let mut wires = [0u32; 1025];

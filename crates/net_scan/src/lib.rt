@@ -3,7 +3,7 @@
 #![tactic(auto)]
 
 ghost use Rattle.std.specs.Prelude.{◌≡◌, [], ◌∷◌, ◌+◌, ◌<◌, ◌≤◌, ◌^◌, length, get_or, leb};
-ghost use Rattle.rules.specs.Net.{net_at, unlimited};
+ghost use Rattle.rules.specs.Net.{unlimited, net};
 ghost use Rattle.rules.specs.Judge.{unless, then_judge, childed_by};
 ghost use Rattle.field.specs.Format.{cut_at, due_at};
 ghost use Rattle.net_file.specs.NetFile.{front_value, front_of, node_due, taken_value, taken_at, net_from, net_of, columns_of, laid_over};
@@ -134,7 +134,7 @@ fn put_node(
     polarity: &mut [u8; 1025],
 )
     requires { i < 1025 }
-    ensures { net_at unlimited parent.exit wire.exit kind.exit pin.exit polarity.exit ≡ laid_over (net_at unlimited parent.entry wire.entry kind.entry pin.entry polarity.entry) i (columns_of unlimited (d ∷ [])) }
+    ensures { net unlimited parent.new wire.new kind.new pin.new polarity.new ≡ laid_over (net unlimited parent.old wire.old kind.old pin.old polarity.old) i (columns_of unlimited (d ∷ [])) }
 {
     parent[i] = d.parent;
     wire[i] = d.wire;
@@ -153,8 +153,8 @@ fn judge_fields(
     pin: &mut [u32; 1025],
     polarity: &mut [u8; 1025],
 ) -> NetRead
-    requires { net_at unlimited parent wire kind pin polarity ≡ blank }
-    ensures { JudgedFile s.now (net_from s.now l) (net_at unlimited parent.exit wire.exit kind.exit pin.exit polarity.exit) result }
+    requires { net unlimited parent.old wire.old kind.old pin.old polarity.old ≡ blank }
+    ensures { JudgedFile s.now (net_from s.now l) (net unlimited parent.new wire.new kind.new pin.new polarity.new) result }
 {
     let mut counts = [0u8; 1025];
     let mut at: usize = 12;
@@ -198,8 +198,8 @@ pub fn judge_file(
     pin: &mut [u32; 1025],
     polarity: &mut [u8; 1025],
 ) -> NetRead
-    requires { net_at unlimited parent wire kind pin polarity ≡ blank }
-    ensures { JudgedFile s.now (net_of s.now) (net_at unlimited parent.exit wire.exit kind.exit pin.exit polarity.exit) result }
+    requires { net unlimited parent.old wire.old kind.old pin.old polarity.old ≡ blank }
+    ensures { JudgedFile s.now (net_of s.now) (net unlimited parent.new wire.new kind.new pin.new polarity.new) result }
 {
     let front = read_front(s);
     match front {

@@ -1,6 +1,6 @@
 // The readers and the writers of the two files.
 ghost use Rattle.std.specs.Prelude.{◌≡◌};
-ghost use Rattle.rules.specs.Net.{net_at, unlimited};
+ghost use Rattle.rules.specs.Net.{net_at, unlimited, net};
 ghost use Rattle.field.specs.Format.{wrote_number as placementWroteNumber, wrote_count};
 ghost use Rattle.net_file.specs.NetFile.{read_number, read_places, wrote_number, wrote_bytes};
 ghost use Rattle.placement_file.specs.File.{read_number as placementReadNumber, read_count};
@@ -56,7 +56,7 @@ pub extern "C" fn proved_read_net(
     polarity: &mut [u8],
     place: &mut u64,
 ) -> u32
-    ensures { ReadsNet s.now (net_at unlimited parent.entry wire.entry kind.entry pin.entry polarity.entry) (net_at unlimited parent.exit wire.exit kind.exit pin.exit polarity.exit) (limits_of limit.old cb.old repeater.old) (limits_of limit.new cb.new repeater.new) result place.new }
+    ensures { ReadsNet s.now (net unlimited parent.old wire.old kind.old pin.old polarity.old) (net unlimited parent.new wire.new kind.new pin.new polarity.new) (limits_of limit.old cb.old repeater.old) (limits_of limit.new cb.new repeater.new) result place.new }
 {
     let said = net_reader::read_net(s, parent, wire, kind, pin, polarity);
     let before = Limits {

@@ -39,7 +39,7 @@ module _ (net placement : List ℕ) (bytes : AreBytes net) where
   -- a net and a placement that were read: the net is sound, and the columns fit
   module _ {n : Net} {es : List Entry} (a : net_file.net_of net ≡ net_file.read n) (b : placement_file.placement_of placement ≡ placement_file.placement es) where
     sound : judged n ≡ Sound
-    sound = same_bytes net (n bytes a).sound
+    sound = (same_bytes net n bytes a).sound
 
     fits : PlacementFits (map wire es) (map offset es)
     fits = record { even = length-map es offset ∙ sym (length-map es wire); few = rw (length-map es wire) (few_entries placement es b) }

@@ -1,4 +1,4 @@
-// The one call that the router makes, from C: is this placement file legal on this net file?
+// The one call that the router makes: is this placement file legal on this net file? Crate `router_c` gives it to C.
 #![tactic(auto)]
 
 ghost use Rattle.std.specs.Prelude.{◌≡◌, ◌≤◌, length, take};
@@ -104,8 +104,7 @@ fn check_columns(
 }
 
 // 0 for a net and a legal placement of it, else the first refusal's number: the net file's, the placement file's, the placement's (RULES 6.21).
-#[unsafe(no_mangle)]
-pub extern "C" fn mustorgyel_check(net: &[u8], placement: &[u8]) -> u32
+pub fn mustorgyel_check(net: &[u8], placement: &[u8]) -> u32
     ensures { result ≡ routed net.now placement.now }
 {
     let mut parent = [0u16; 1025];

@@ -20,7 +20,6 @@ use Rattle.rules.proofs.Numbers.{NetNumber, out_of_range, wrong_parent, childles
 use Rattle.frontier.proofs.LeastCount.{one_least}
 use Rattle.columns.specs.Columns.{room_in, Kept, Holds}
 use Rattle.solution.specs.declared.Solved.{Solved}
-use Rattle.solution.specs.declared.Solved.TheVariants.{Refused}
 use Rattle.solution.specs.Answer as answer
 use Rattle.solution.specs.Answer.{Answered, solved_number, solved_count}
 

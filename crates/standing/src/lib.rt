@@ -14,7 +14,7 @@ const ENTRIES: usize = 4096;
 
 // Whether an entry stands on a wire, and not before another: the tests of 10.
 fn entry_stands(wire: &[u32], before: Entry, entry: Entry) -> bool
-    ensures { (n : Net) → HasWires n wire.now → result ≡ both (on_its_wire n entry) (not_lower_lem before entry) }
+    ensures { (n : Net) → HasWires n wire.now → result ≡ both (on_its_wire n entry) (not_lower before entry) }
 {
     let on = entry.wire as usize;
     if on == 0 {

@@ -1,5 +1,5 @@
 -- What a wire is worth is met by one of its candidates, so one of the code's tries finds it.
-use Prim.Native.Nat.{ℕ, suc, ◌+◌, ◌-◌, ◌≤◌}
+use Prim.Native.Nat.{ℕ, suc, ◌+◌, ◌≤◌}
 use mathlib.Core.Path.{refl}
 use native.Mathlib.Omega.{arith}
 use Rattle.frontier.specs.Cell.{inv, Cell}

@@ -8,7 +8,7 @@ use lib.ListN.{length, get_or, set, length-set}
 use lib.Seq.{get_or-set_same, get_or-set_other}
 use Rattle.rules.specs.Figures.{most_places}
 use Rattle.rules.specs.Net.{Net, places, parent, kind, pin, polarity}
-use Rattle.rules.specs.Tree.{none, hanging, under}
+use Rattle.rules.specs.Tree.{hanging, under}
 use Rattle.rules.specs.Sound.{SoundNet}
 use Rattle.frontier.specs.Cell.{Cell}
 use Rattle.frontier.specs.Frontier.{State, Acc, acc, join, width}

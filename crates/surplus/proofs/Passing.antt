@@ -12,7 +12,7 @@ use Rattle.frontier.specs.Cell.{Cell}
 use Rattle.frontier.specs.Plan.{plan_of, count, Settled}
 use Rattle.frontier.specs.Frontier.{State, lost, has, Acc, fail, all, conv, acc, close, width}
 use Rattle.frontier.specs.Cert.{Table}
-use Rattle.surplus.specs.Wires.{lift_of, Alive, rest, Ordered, Each}
+use Rattle.surplus.specs.Wires.{lift_of, Alive, Ordered, Each}
 use Rattle.surplus.specs.Dealt.{f3, Takes, Dealt}
 use Rattle.surplus.specs.Choice.{Budgeted}
 use Rattle.surplus.specs.Walk.{WireOk, Parts}

@@ -1,5 +1,5 @@
 -- One step of the walk: what it asks of each call, and what it comes to.
-use Prim.Native.Nat.{ℕ, suc, ◌+◌, ◌-◌, ◌≤◌, ◌<◌}
+use Prim.Native.Nat.{ℕ, suc, ◌+◌, ◌≤◌, ◌<◌}
 use mathlib.Core.Path.{◌≡◌, refl, subst, ap}
 use mathlib.Core.List.{List}
 use native.Mathlib.Omega.{arith}

@@ -1,11 +1,7 @@
 -- `load::any_child` meets its contract. The invariant: while none is found, none of the nodes before j is a child.
-use Prim.Native.Nat.{◌≤◌, ◌-◌}
-use mathlib.Core.Path.{◌≡◌, sym, ◌∙◌}
+use Prim.Native.Nat.{◌-◌}
+use mathlib.Core.Path.{◌≡◌}
 use mathlib.Core.Bool.{false}
-use mathlib.Core.Logic.{⊎_elim}
-use native.Mathlib.Omega.{arith}
-use native.Mathlib.Decide.{ℕ_discrete}
-use Rattle.rules.proofs.Tests.{never}
 use Rattle.load.specs.Next.{NoneFrom}
 use Rattle.load.proofs.any_child.Given as goal
 

@@ -1,6 +1,5 @@
 -- `load::bare` meets its contract.
 use borrow.Author.Tests.{eq-eqb, ne_eqb}
-use borrow.Author.Rules.{rules}
 use Rattle.load.proofs.bare.Goals as goal
 
 pub returns-then-kind-eq1 : goal.returns-then-kind-eq1

@@ -1,8 +1,6 @@
 use mathlib.Core.Path.{refl}
-use Prim.Native.Nat.{◌≤◌, ◌-◌}
 use native.Mathlib.Omega.{arith}
-use lib.ListN.{length}
-use Rattle.load.proofs.Parts.{Bare, bare_none, bare_more, bare_all}
+use Rattle.load.proofs.Parts.{bare_none, bare_more, bare_all}
 use Rattle.load.proofs.bare_parts.Goals as goal
 
 pub loop-i-init : goal.loop-i-init

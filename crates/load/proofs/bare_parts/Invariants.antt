@@ -1,9 +1,7 @@
 -- `load::bare_parts` meets its contract. The invariant: the nodes before i are done.
-use mathlib.Core.Path.{refl}
 use Prim.Native.Nat.{◌≤◌, ◌-◌}
-use native.Mathlib.Omega.{arith}
 use lib.ListN.{length}
-use Rattle.load.proofs.Parts.{Bare, bare_none, bare_more, bare_all}
+use Rattle.load.proofs.Parts.{Bare}
 use Rattle.load.proofs.bare_parts.Given as goal
 
 abbrev pub invariant-loop-i : goal.invariant-loop-i

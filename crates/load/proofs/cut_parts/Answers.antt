@@ -1,10 +1,7 @@
 use mathlib.Core.Path.{refl}
-use Prim.Native.Nat.{◌≤◌, ◌-◌}
 use native.Mathlib.Omega.{arith}
-use lib.ListN.{length, get_or}
-use Rattle.rules.specs.Net.{net}
-use Rattle.load.specs.Tables.{Parts}
-use Rattle.load.proofs.Parts.{offsets_to, offsets_all, parts_cut}
+use lib.ListN.{get_or}
+use Rattle.load.proofs.Parts.{offsets_all, parts_cut}
 use Rattle.rules.specs.Load.{entries}
 use Rattle.load.proofs.Wire.{wire-within, offset-within}
 use Rattle.load.proofs.cut_parts.Goals as goal

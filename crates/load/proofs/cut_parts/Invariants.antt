@@ -1,13 +1,9 @@
 -- `load::cut_parts` meets its contract. The invariant: the tables are right for a placement of the first k entries.
-use mathlib.Core.Path.{refl}
 use Prim.Native.Nat.{◌≤◌, ◌-◌}
-use native.Mathlib.Omega.{arith}
-use lib.ListN.{length, get_or}
+use lib.ListN.{length}
 use Rattle.rules.specs.Net.{net}
 use Rattle.load.specs.Tables.{Parts}
-use Rattle.load.proofs.Parts.{offsets_to, offsets_all, parts_cut}
-use Rattle.rules.specs.Load.{entries}
-use Rattle.load.proofs.Wire.{wire-within, offset-within}
+use Rattle.load.proofs.Parts.{offsets_to}
 use Rattle.load.proofs.cut_parts.Given as goal
 
 abbrev pub invariant-loop-k : goal.invariant-loop-k

@@ -11,7 +11,6 @@ use Rattle.load.specs.Asks.{Stacked, AsksNode}
 use Rattle.load.proofs.Bound.{load_most}
 use Rattle.load.proofs.Scan.{load_sink}
 use Rattle.load.proofs.Wire.{wire-within, offset-most, drives-lowest, drives_next, before-lower}
-use borrow.Author.Rules.{rules}
 use Rattle.load.proofs.drives.Goals as goal
 
 pub overflow_cast-i : goal.overflow_cast-i

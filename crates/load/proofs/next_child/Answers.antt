@@ -1,7 +1,4 @@
-use Prim.Native.Nat.{◌-◌}
 use native.Mathlib.Omega.{arith}
-use lib.ListN.{length}
-use Rattle.load.specs.Next.{Passed}
 use Rattle.load.proofs.Search.{passed_one}
 use Rattle.load.proofs.next_child.Goals as goal
 

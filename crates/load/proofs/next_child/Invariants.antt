@@ -1,9 +1,7 @@
 -- `load::next_child` meets its contract. The invariant: none of the nodes past `after` and before j is a child.
 use Prim.Native.Nat.{◌-◌}
-use native.Mathlib.Omega.{arith}
 use lib.ListN.{length}
 use Rattle.load.specs.Next.{Passed}
-use Rattle.load.proofs.Search.{passed_one}
 use Rattle.load.proofs.next_child.Given as goal
 
 abbrev pub invariant-loop-j : goal.invariant-loop-j

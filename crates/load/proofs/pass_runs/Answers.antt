@@ -1,7 +1,4 @@
-use Prim.Native.Nat.{◌-◌}
 use native.Mathlib.Omega.{arith}
-use lib.ListN.{length}
-use Rattle.load.specs.Next.{Passed}
 use Rattle.load.proofs.Search.{passed_run}
 use Rattle.load.proofs.pass_runs.Goals as goal
 

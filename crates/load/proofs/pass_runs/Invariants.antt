@@ -1,9 +1,7 @@
 -- `load::pass_runs` meets its contract. The invariant is what it promises, of the nodes passed so far.
 use Prim.Native.Nat.{◌-◌}
-use native.Mathlib.Omega.{arith}
 use lib.ListN.{length}
 use Rattle.load.specs.Next.{Passed}
-use Rattle.load.proofs.Search.{passed_run}
 use Rattle.load.proofs.pass_runs.Given as goal
 
 abbrev pub invariant-loop-j : goal.invariant-loop-j

@@ -1,8 +1,7 @@
 use mathlib.Core.Path.{◌≡◌, refl}
-use Prim.Native.Nat.{◌≤◌, ◌<◌, ◌-◌}
+use Prim.Native.Nat.{◌<◌}
 use native.Mathlib.Omega.{arith}
 use lib.ListN.{length, get_or}
-use Rattle.load.specs.Tables.{SpansTo}
 use Rattle.load.proofs.Spans.{spans_none, spans_more}
 use Rattle.load.proofs.span_children.Goals as goal
 

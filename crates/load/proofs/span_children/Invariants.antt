@@ -1,10 +1,7 @@
 -- `load::span_children` meets its contract. The invariant: the tables are right of the children before i.
-use mathlib.Core.Path.{◌≡◌, refl}
-use Prim.Native.Nat.{◌≤◌, ◌<◌, ◌-◌}
-use native.Mathlib.Omega.{arith}
-use lib.ListN.{length, get_or}
+use Prim.Native.Nat.{◌≤◌, ◌-◌}
+use lib.ListN.{length}
 use Rattle.load.specs.Tables.{SpansTo}
-use Rattle.load.proofs.Spans.{spans_none, spans_more}
 use Rattle.load.proofs.span_children.Given as goal
 
 abbrev pub invariant-loop-i : goal.invariant-loop-i

@@ -1,7 +1,6 @@
 -- `load::stacked` meets its contract.
 use native.Mathlib.Omega.{arith}
 use Rattle.load.proofs.Wire.{stacked_by}
-use borrow.Author.Rules.{rules}
 use Rattle.load.proofs.stacked.Goals as goal
 
 pub returns : goal.returns

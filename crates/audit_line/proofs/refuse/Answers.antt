@@ -1,0 +1,9 @@
+-- `refuse` shows the refusal after the word.
+use native.Mathlib.Omega.{arith}
+use mathlib.Core.Path.{refl}
+use borrow.Author.Rules.{rules}
+use Rattle.reply.proofs.Showing.{shown}
+use Rattle.audit_line.proofs.refuse.Goals as goal
+
+pub returns : goal.returns
+returns c = record { shows = shown c.put_refusal-bytes.ensures.laid (omega (arith, c.put_refusal-bytes.ensures.upper_bound, c.requires)); found = refl }

@@ -1,0 +1,9 @@
+-- `refuse` shows the line, and no file.
+use native.Mathlib.Omega.{arith}
+use mathlib.Core.Path.{refl}
+use borrow.Author.Rules.{rules}
+use Rattle.reply.proofs.Showing.{shown, nothing}
+use Rattle.reply.proofs.refuse.Goals as goal
+
+pub returns : goal.returns
+returns c = λ file. record { text = shown c.put_refusal-text.ensures.laid (omega (arith, c.put_refusal-text.ensures.upper_bound, c.requires)); file = nothing file; status = refl }
