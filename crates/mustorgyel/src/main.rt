@@ -3,9 +3,10 @@
 
 ghost use Rattle.std.specs.Prelude.{◌≡◌, ◌≤◌, length, take};
 ghost use Rattle.reply.specs.Said.{most_text};
-ghost use Rattle.mustorgyel.specs.Printed.{most_read, Answers};
+ghost use Rattle.mustorgyel.specs.Printed.{most_read, Answers, PrintsAll};
 
 use input::Input;
+use std::io::{Read, Write};
 
 // The bytes that are taken in (RULES 7.2). They decide the answer, whatever comes after them.
 const INPUT: usize = 16384;
@@ -29,6 +30,30 @@ fn answer_input(buffer: &[u8], count: usize, out: &mut [u8]) -> usize
     reply.text
 }
 
+// How a run ended.
+#[derive(Clone, Copy)]
+enum Ended {
+    Printed,
+    Unread,
+    Unwritten,
+}
+
+// Reads an input to its end, or as far as it decides, and prints its answer.
+fn answer_all<R: Read, W: Write>(reader: &mut R, output: &mut W) -> Ended
+    ensures { PrintsAll (R.remaining reader.old) (W.contents output.old) (W.contents output.new) result }
+{
+    let mut buffer = [0u8; INPUT];
+    let Input::Bytes(count) = input::read(reader, &mut buffer) else {
+        return Ended::Unread;
+    };
+    let mut text = [0u8; TEXT];
+    let bytes = answer_input(&buffer, count, &mut text);
+    match output.write_all(&text[..bytes]) {
+        Ok(()) => Ended::Printed,
+        Err(_) => Ended::Unwritten,
+    }
+}
+
 // What cannot be said on standard error can be said nowhere.
 fn say(rt: &impl Eprint, line: &str) {
     let _ = rt.eprintln(line);
@@ -37,17 +62,12 @@ fn say(rt: &impl Eprint, line: &str) {
 // Its status is 0 in any case. Without an answer nothing, or not all of it, stands on standard output, and a line on standard error; the
 // launcher makes a status of that (RULES 7.8).
 fn main(rt: HostRuntime) {
-    let mut input = [0u8; INPUT];
-    let read = input::read(&mut rt.stdin(), &mut input);
-    let Input::Bytes(count) = read else {
-        return say(
+    match answer_all(&mut rt.stdin(), &mut rt.stdout()) {
+        Ended::Printed => {}
+        Ended::Unread => say(
             &rt,
             "mustorgyel: standard input could not be read to its end",
-        );
-    };
-    let mut text = [0u8; TEXT];
-    let bytes = answer_input(&input, count, &mut text);
-    if rt.write_all(&text[..bytes]).is_err() {
-        say(&rt, "mustorgyel: standard output could not be written")
+        ),
+        Ended::Unwritten => say(&rt, "mustorgyel: standard output could not be written"),
     }
 }
