@@ -2,10 +2,8 @@
 use Prim.Native.Nat.{ℕ}
 use native.Mathlib.Omega.{arith}
 use mathlib.Core.Path.{◌≡◌, refl, sym, ap, subst, ◌∙◌}
-use mathlib.Core.List.{List, [], ◌∷◌}
+use mathlib.Core.List.{List}
 use lib.ListN.{length}
-use types.Run.{OneOf, miss}
-use denote.Enum.Declared.{tag_of}
 use Rattle.rules.specs.declared.Entry.{Entry}
 use Rattle.rules.specs.declared.Judged.{Judged}
 use Rattle.rules.specs.declared.Judged.TheVariants.{Sound, Refused}
@@ -23,7 +21,6 @@ use Rattle.checker.proofs.CheckedIsLegal.{checked_is_legal}
 use Rattle.checker.proofs.VerdictSays.{columns_even, columns_few}
 use Rattle.carry.specs.declared.Outcome.{Outcome}
 use Rattle.carry.specs.Carry.{offsets_of, placement_of, column_after, CarriedIs}
-use Rattle.carry.specs.contracts.Outcome.{the_type}
 use Rattle.carry.proofs.Cut.{cut_entries}
 use Rattle.carry.proofs.CarriedIsLegal.{carried_is_legal}
 use Rattle.placement_file.specs.File.{placement_bytes}
@@ -54,11 +51,9 @@ refused : (o : Outcome) (j : Judged) (count : ℕ) (why : Refusal) → o ≡ pla
 refused o Sound count why e f = absurd (let z : ◌≡◌ {A = ℕ} 0 1 = cc in omega arith)
 refused o (Refused r) count why e f = let q : r ≡ why = cc in ap Refused q
 
--- an arm knows the numbers of the variants that it takes: the last one is the refusal
-not_refused : (o : Outcome) (j : Judged) (count : ℕ) → o ≡ placement_of j count → OneOf (0 ∷ 1 ∷ 2 ∷ []) (tag_of the_type o) → j ≡ Sound
+not_refused : (o : Outcome) (j : Judged) (count : ℕ) → o ≡ placement_of j count → ((why : Refusal) → o ≡ Outcome.Refused why → ⊥) → j ≡ Sound
 not_refused o Sound count e h = refl
-not_refused o (Refused r) count e h =
-    absurd (miss (0 ∷ 1 ∷ 2 ∷ []) 3 tt (subst (λ (x : Outcome). OneOf (0 ∷ 1 ∷ 2 ∷ []) (tag_of the_type x)) e h))
+not_refused o (Refused r) count e h = absurd (h r e)
 
 module _ {n m : Net} (ws os : List ℕ) {after : List ℕ} {r : Outcome} (a : judged n ≡ Sound) (b : judged m ≡ Sound) (is : CarriedIs n m ws os r after) where
   -- the nets' own refusals do not come
@@ -68,7 +63,7 @@ module _ {n m : Net} (ws os : List ℕ) {after : List ℕ} {r : Outcome} (a : ju
   pub carry_refuses : (why : Refusal) → r ≡ Outcome.Refused why → judgement n m ws os ≡ Refused why
   carry_refuses why e = refused r (judgement n m ws os) (length ws) why sound_nets e
 
-  pub carry_passes : OneOf (0 ∷ 1 ∷ 2 ∷ []) (tag_of the_type r) → judgement n m ws os ≡ Sound
+  pub carry_passes : ((why : Refusal) → r ≡ Outcome.Refused why → ⊥) → judgement n m ws os ≡ Sound
   carry_passes other = not_refused r (judgement n m ws os) (length ws) sound_nets other
 
   module _ (passed : judgement n m ws os ≡ Sound) where

@@ -1,6 +1,6 @@
 -- A node's state off its row: the first fitting surplus, and the loads there and one further.
 use native.Mathlib.Omega.{arith}
-use Prim.Native.Nat.{suc, ◌+◌, ◌≤◌}
+use Prim.Native.Nat.{suc, ◌+◌}
 use mathlib.Core.Path.{◌≡◌}
 use Rattle.surplus.proofs.Spreading.{near_row, near_row_none}
 use Rattle.surplus.proofs.Tails.{rows_within}
@@ -21,11 +21,12 @@ load_at-a-requires c = omega (arith, rows_within _ c.requires.1, c.requires.2)
 pub load_at-b-requires : goal.load_at-b-requires
 load_at-b-requires c = omega (arith, rows_within _ c.requires.1, c.requires.2)
 
+-- what fits the limit fits its type
 pub overflow_cast-result : goal.overflow_cast-result
-overflow_cast-result c = omega (arith, (let low' : c.load_at-a.result ≤ 1000000 = omega (arith, c.load_at-a.ensures, c.first_fit-e.ensures.fits (omega (arith, c.if-last-e.false)), c.requires.0.small) in low'))
+overflow_cast-result c = omega (arith, c.load_at-a.ensures, c.first_fit-e.ensures.fits (omega (arith, c.if-last-e.false)), c.requires.0.small)
 
 pub overflow_cast-result-2 : goal.overflow_cast-result-2
-overflow_cast-result-2 c = omega (arith, (let low' : c.load_at-a.result ≤ 1000000 = omega (arith, c.load_at-a.ensures, c.first_fit-e.ensures.fits (omega (arith, c.if-last-e.false)), c.requires.0.small) in low'), c.least-less.ensures)
+overflow_cast-result-2 c = omega (arith, c.load_at-a.ensures, c.first_fit-e.ensures.fits (omega (arith, c.if-last-e.false)), c.requires.0.small, c.least-less.ensures)
 
 pub returns : goal.returns
 returns c =

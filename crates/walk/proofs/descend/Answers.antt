@@ -10,14 +10,10 @@ loop-i-init c = (refl, λ N b. descent_start _ c.requires.cell_ok.2 b)
 pub offset_bounds-parent-i : goal.offset_bounds-parent-i
 offset_bounds-parent-i c =
     let (ok, one, sound, l) = c.requires.cell_ok in
-    let (w, cl) = c.requires.wires_joined in
     record { fits = omega (arith, sound.few, c.loop-i-test.true) }
 
 pub bounds-parent-i : goal.bounds-parent-i
-bounds-parent-i c =
-    let (ok, one, sound, l) = c.requires.cell_ok in
-    let (w, cl) = c.requires.wires_joined in
-    c.loop-i-test.true
+bounds-parent-i c = c.loop-i-test.true
 
 pub overflow_cast-v : goal.overflow_cast-v
 overflow_cast-v c =
@@ -30,13 +26,11 @@ overflow_cast-v c =
 pub offset_bounds-wire-i : goal.offset_bounds-wire-i
 offset_bounds-wire-i c =
     let (ok, one, sound, l) = c.requires.cell_ok in
-    let (w, cl) = c.requires.wires_joined in
     record { fits = omega (arith, sound.few, c.loop-i-test.true) }
 
 pub bounds-wire-i : goal.bounds-wire-i
 bounds-wire-i c =
     let (ok, one, sound, l) = c.requires.cell_ok in
-    let (w, cl) = c.requires.wires_joined in
     omega (arith, sound.wires_long, c.loop-i-test.true)
 
 pub wide-w-requires : goal.wide-w-requires
@@ -62,7 +56,6 @@ overflow_cast-senses c =
 pub bounds-parts-i : goal.bounds-parts-i
 bounds-parts-i c =
     let (ok, one, sound, l) = c.requires.cell_ok in
-    let (w, cl) = c.requires.wires_joined in
     omega (arith, sound.few, c.loop-i-test.true)
 
 pub overflow_cast-parts : goal.overflow_cast-parts
@@ -106,7 +99,6 @@ overflow_cast-senses-in-loop-i c =
 pub bounds-senses-i : goal.bounds-senses-i
 bounds-senses-i c =
     let (ok, one, sound, l) = c.requires.cell_ok in
-    let (w, cl) = c.requires.wires_joined in
     omega (arith, sound.few, c.loop-i-test.true)
 
 pub hand_on-requires : goal.hand_on-requires
@@ -122,14 +114,10 @@ hand_on-requires c =
 pub overflow_add-i : goal.overflow_add-i
 overflow_add-i c =
     let (ok, one, sound, l) = c.requires.cell_ok in
-    let (w, cl) = c.requires.wires_joined in
     record { fits = omega (arith, sound.few, c.loop-i-test.true) }
 
 pub loop-i-smaller : goal.loop-i-smaller
-loop-i-smaller c =
-    let (ok, one, sound, l) = c.requires.cell_ok in
-    let (w, cl) = c.requires.wires_joined in
-    omega (arith, c.loop-i-test.true)
+loop-i-smaller c = omega (arith, c.loop-i-test.true)
 
 pub loop-i-preserved : goal.loop-i-preserved
 unfolding cuts
