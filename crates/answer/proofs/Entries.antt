@@ -2,10 +2,9 @@
 use Prim.Native.Nat.{ℕ, zero, suc, ◌+◌, ◌<◌}
 use native.Mathlib.Numerals.{add-one}
 use native.Mathlib.Omega.{arith}
-use mathlib.Core.Path.{◌≡◌, refl, sym, ap, ◌∙◌}
+use mathlib.Core.Path.{◌≡◌}
 use mathlib.Core.List.{List, [], ◌∷◌, ◌++◌, append-nil, append_assoc}
 use lib.ListN.{length, get_or, take}
-use lib.Seq.{take-length}
 use Rattle.answer.specs.Text.{entry_line, entry_lines, place_line, place_lines}
 
 one_after : (ws os ls : List ℕ) (k : ℕ) → k < length ws → k < length os → k < length ls

@@ -1,7 +1,6 @@
 -- The example of RULES 7.7, by computing.
 use mathlib.Core.Path.{◌≡◌, refl}
-use mathlib.Core.List.{List, [], ◌∷◌}
-use Prim.Native.Nat.{ℕ}
+use mathlib.Core.List.{[], ◌∷◌}
 use Rattle.answer.specs.Text.{higher, digits, said, count_line, pair_line, entry_line, entry_lines, loads_text, answer_text, refused_line}
 use Rattle.rules.specs.declared.Refusal.TheVariants.{FileEnds}
 

@@ -1,14 +1,14 @@
 -- Bytes laid one after the other, by field's law of a run of stores.
-use Prim.Native.Nat.{ℕ, suc, ◌+◌, ◌≤◌, ◌<◌}
+use Prim.Native.Nat.{ℕ, ◌+◌, ◌≤◌, ◌<◌}
 use native.Mathlib.Numerals.{add-one}
 use native.Mathlib.Omega.{arith}
-use mathlib.Core.Path.{◌≡◌, refl, sym, ap, ◌∙◌}
-use mathlib.Core.List.{List, [], ◌∷◌, ◌++◌}
+use mathlib.Core.Path.{◌≡◌, sym, ap, ◌∙◌}
+use mathlib.Core.List.{List, ◌++◌}
 use lib.ListN.{length, get_or, set, take, drop, replicate, length-append}
 use lib.Seq.{sets, sets-eq, take-suc, take-append_seam, length-take-le, length-sets}
 use Rattle.field.proofs.Numbers.{sets_append}
 use Rattle.answer.specs.declared.Line.{Line}
-use Rattle.answer.specs.Text.{Laid, IsLine, line, end}
+use Rattle.answer.specs.Text.{Laid, IsLine, end}
 
 pub one_more : (l bs : List ℕ) (at i : ℕ) → i < length bs → set (sets l at (take i bs)) (at + i) (get_or bs i 0) ≡ sets l at (take (i + 1) bs)
 one_more l bs at i h =

@@ -1,14 +1,13 @@
 -- The loads of the definitions and of the model are the same: a wire's entries are good on the tree exactly where they stand in order and each drives at most C_U.
-use Prim.Native.Nat.{ℕ, zero, suc, ◌+◌, ◌-◌, ◌≤◌, ◌<◌}
+use Prim.Native.Nat.{ℕ, ◌-◌, ◌≤◌, ◌<◌}
 use mathlib.Core.Path.{◌≡◌, refl, sym, ◌∙◌}
 use mathlib.Core.List.{List, [], ◌∷◌, ◌++◌}
 use lib.ListN.{length}
 use native.Mathlib.Omega.{arith}
-use native.Mathlib.Decide.{ℕ_discrete}
 use borrow.Author.Tests.{eq-eqb, ne_eqb}
 use Rattle.rules.specs.Net.{Net, places, wire, kind, pin}
 use Rattle.rules.specs.Tree.{Hanging, none, sink, branch, under, tree}
-use Rattle.rules.specs.Load.{drives, handed_by, load_below, driven_on, joined, driven, source_drives}
+use Rattle.rules.specs.Load.{drives, handed_by, load_below, driven_on, driven, source_drives}
 use Rattle.rules.specs.Legal.{Each}
 use Rattle.rules.specs.Sound.{SoundNet}
 use Rattle.rules.specs.Sum.{sum_over, sum_from}

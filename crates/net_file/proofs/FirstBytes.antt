@@ -1,6 +1,6 @@
 -- The first bytes of an input decide what it says. A file's limits take 12 bytes and at most 1,025 fields are read after them, each of at most 14: inputs
 -- that are longer than that and alike so far are read alike, and neither is a net.
-use Prim.Native.Nat.{ℕ, zero, suc, ◌+◌, ◌*◌, ◌-◌, ◌≤◌, ◌<◌}
+use Prim.Native.Nat.{ℕ, zero, suc, ◌+◌, ◌*◌, ◌≤◌, ◌<◌}
 use native.Mathlib.Omega.{arith}
 use mathlib.Core.Path.{◌≡◌, refl, ap, ◌∙◌}
 use mathlib.Core.List.{List}

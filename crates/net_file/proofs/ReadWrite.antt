@@ -16,7 +16,7 @@ use Rattle.rules.specs.declared.Judged.{Judged}
 use Rattle.rules.specs.declared.Judged.TheVariants.{Sound}
 use Rattle.rules.specs.Figures.{most_places}
 use Rattle.rules.specs.Choose.{pick}
-use Rattle.rules.specs.Net.{Net, places, parent, kind, node}
+use Rattle.rules.specs.Net.{Net, places, node}
 use Rattle.rules.specs.Judge.{unless, limits_in_range, columns_fit, source_clear, node_judged, nodes_judged, judged}
 use Rattle.rules.proofs.Tests.{never, unless_met, then_met}
 use Rattle.field.specs.declared.Value.{Value}

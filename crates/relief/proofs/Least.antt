@@ -5,7 +5,7 @@ use mathlib.Core.List.{List}
 use lib.ListN.{length}
 use native.Mathlib.Omega.{arith}
 use Rattle.rules.specs.declared.Entry.{Entry}
-use Rattle.rules.specs.Net.{Net, places, wire, kind, pin, polarity}
+use Rattle.rules.specs.Net.{Net, places, wire, kind, pin}
 use Rattle.rules.specs.Tree.{Hanging, none, sink, branch, under, tree}
 use Rattle.rules.specs.Load.{offsets_on}
 use Rattle.rules.specs.Legal.{InOrder, start}

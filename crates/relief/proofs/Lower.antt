@@ -6,7 +6,7 @@ use lib.ListN.{length}
 use native.Mathlib.Nat.{mul-le-mul_left}
 use native.Mathlib.Omega.{arith}
 use Rattle.rules.specs.Net.{Net, wire}
-use Rattle.rules.specs.Tree.{Hanging, none, sink, branch, under}
+use Rattle.rules.specs.Tree.{Hanging, none, sink, branch}
 use Rattle.rules.specs.Sound.{SoundNet}
 use Rattle.rules.specs.Complete.{Joins}
 use Rattle.frontier.specs.Cell.{Cell}

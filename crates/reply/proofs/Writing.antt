@@ -1,10 +1,10 @@
 -- A placement that stands on a sound net can be written, and its file says it.
 use Prim.Native.Nat.{ℕ, ◌*◌, ◌+◌, ◌≤◌}
 use native.Mathlib.Omega.{arith}
-use mathlib.Core.Path.{◌≡◌, refl, sym, ap, ◌∙◌}
+use mathlib.Core.Path.{◌≡◌}
 use mathlib.Core.Bool.{true}
 use mathlib.Core.List.{List, [], ◌∷◌, map}
-use lib.ListN.{length, length-map}
+use lib.ListN.{length}
 use borrow.Author.Tests.{lt-ltb, le-leb}
 use Rattle.rules.specs.declared.Entry.{Entry}
 use Rattle.rules.specs.declared.Refusal.{Refusal}
@@ -16,9 +16,8 @@ use Rattle.rules.specs.Sound.{SoundNet}
 use Rattle.rules.proofs.Tests.{both_true}
 use Rattle.field.specs.declared.Wrote.{Wrote}
 use Rattle.field.specs.declared.Wrote.TheVariants.{Bytes, Refused}
-use Rattle.placement_file.specs.File.{entry_in_range, wire, offset, placement, placement_of, columns_of, placement_bytes, WroteAs}
-use Rattle.placement_file.proofs.Listing.{length_entries}
-use Rattle.placement_file.proofs.RoundTrip.{Ranged, Placed, columns_back, bytes_file, entries_back}
+use Rattle.placement_file.specs.File.{entry_in_range, wire, offset, placement, columns_of, placement_bytes, WroteAs}
+use Rattle.placement_file.proofs.RoundTrip.{Ranged, Placed, columns_back, entries_back}
 use Rattle.placement_file.proofs.SamePlacement.{wrote_as}
 use Rattle.placement_writer.proofs.Writing.{length_bytes}
 use Rattle.reply.specs.Said.{Shows}

@@ -9,7 +9,7 @@ use lib.Dec.{eqb}
 use native.Mathlib.Omega.{arith}
 use borrow.Author.Tests.{eqb-true, eq-eqb, ne_eqb}
 use Rattle.rules.specs.declared.Entry.{Entry}
-use Rattle.rules.specs.Choose.{pick, both}
+use Rattle.rules.specs.Choose.{pick}
 use Rattle.rules.specs.Net.{Net}
 use Rattle.rules.specs.Legal.{After, higher, further, InOrder, start, Legal}
 use Rattle.rules.specs.Complete.{Joins, end, given, added, Completes, LeastAdded, NoneCompletes, same_entry, times, Contains}

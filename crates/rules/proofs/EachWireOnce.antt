@@ -1,15 +1,12 @@
 -- Each wire hangs exactly once: the sum of any g over the tree's wires is the sum of g i over i = 1 .. n.
 -- The trees that hang from the nodes before wire i, cut to the wires from i on, together hold each of these once; with i = 1 that is the tree of the source alone.
 use Prim.Native.Nat.{ℕ, zero, suc, ◌+◌, ◌-◌, ◌<◌, ◌≤◌}
-use mathlib.Core.Path.{◌≡◌, refl, sym, ap, ◌∙◌}
+use mathlib.Core.Path.{◌≡◌, refl}
 use native.Mathlib.Omega.{arith}
 use native.Mathlib.Decide.{ℕ_discrete}
-use lib.ListN.{length, get_or}
-use lib.Dec.{eqb}
 use borrow.Author.Tests.{eq-eqb, ne_eqb}
-use Rattle.rules.specs.Choose.{pick}
-use Rattle.rules.specs.Net.{Net, places, parent, wire, kind, pin, polarity}
-use Rattle.rules.specs.Tree.{Hanging, none, sink, branch, hung, hanging, tree}
+use Rattle.rules.specs.Net.{Net, places, parent, kind}
+use Rattle.rules.specs.Tree.{hung, hanging, tree}
 use Rattle.rules.specs.Sound.{SoundNet}
 use Rattle.rules.specs.Sum.{sum_over, sum_from}
 use Rattle.rules.proofs.Hanging.{sink_bare}

@@ -1,7 +1,7 @@
 -- Demand 3, the part that needs no solver: a legal placement of a net, each offset cut to the new wire, is legal on any net that eases it.
 -- On each wire the cut offsets keep their order, no stage grows, and no entry is added or dropped, so no sink changes its sense. Nothing is asked of the nets but that one eases the other.
-use Prim.Native.Nat.{ℕ, zero, suc, ◌+◌, ◌-◌, ◌*◌, ◌%◌, ◌≤◌, ◌<◌, min}
-use mathlib.Core.Path.{◌≡◌, refl, sym, ap, subst, ◌∙◌}
+use Prim.Native.Nat.{ℕ, zero, suc, ◌-◌, ◌≤◌, min}
+use mathlib.Core.Path.{◌≡◌, refl, sym, ap, ◌∙◌}
 use mathlib.Core.List.{List, [], ◌∷◌, ◌++◌, map}
 use lib.ListN.{length, get_or, length-map}
 use native.Mathlib.Nat.{le_trans}
@@ -11,8 +11,8 @@ use borrow.Author.Tests.{eq-eqb, ne_eqb}
 use Rattle.rules.specs.declared.Entry.{Entry}
 use Rattle.rules.specs.Net.{Net, places, parent, wire, kind, pin, polarity}
 use Rattle.rules.specs.Tree.{Hanging, hanging, hung}
-use Rattle.rules.specs.Load.{offsets_on, drives, hands_up, handed_by, load_below, driven_on, joined, driven, drivers}
-use Rattle.rules.specs.Legal.{Each, After, higher, further, Stands, InOrder, start, on_the_way, inverters, Sink, sense, OneSense, Legal, Least, NoneLegal}
+use Rattle.rules.specs.Load.{offsets_on, drives, hands_up, handed_by, load_below, driven_on, joined, driven}
+use Rattle.rules.specs.Legal.{Each, After, higher, further, Stands, InOrder, start, on_the_way, inverters, sense, OneSense, Legal, Least, NoneLegal}
 use Rattle.rules.specs.Ease.{Eases, cut, carried}
 use Rattle.rules.proofs.Order.{Rising, in_order_rises}
 use Rattle.rules.proofs.EachLoad.{each_append, each_first, each_last, each_joined, joined_each}

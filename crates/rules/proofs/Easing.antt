@@ -1,7 +1,7 @@
 -- Easing is reflexive and transitive; cutting twice is cutting once to the smaller wire; cutting to a net's own wires changes nothing.
 use Prim.Native.Nat.{ℕ, ◌≤◌, min}
 use mathlib.Core.Path.{◌≡◌, refl, ap, ◌∙◌}
-use mathlib.Core.List.{List, [], ◌∷◌, map}
+use mathlib.Core.List.{List, [], ◌∷◌}
 use native.Mathlib.Nat.{le_refl, le_trans}
 use native.Mathlib.Omega.{arith}
 use Rattle.rules.specs.declared.Entry.{Entry}

@@ -1,5 +1,5 @@
 -- The definitions tried on nets of RULES 9: they compute, and a pin is not wire.
-use Prim.Native.Nat.{ℕ, zero, suc, ◌+◌, ◌-◌, ◌≤◌}
+use Prim.Native.Nat.{ℕ, ◌+◌, ◌≤◌}
 use mathlib.Core.Path.{◌≡◌, refl}
 use mathlib.Core.List.{List, [], ◌∷◌, ◌++◌}
 use native.Mathlib.Omega.{arith}
@@ -10,7 +10,7 @@ use Rattle.rules.specs.declared.Refusal.TheVariants.{Misplaced, Overloaded, Wron
 use Rattle.rules.specs.Net.{Net, net}
 use Rattle.rules.specs.Tree.{hanging}
 use Rattle.rules.specs.Load.{offsets_on, drives, hands_up, handed_by, load_below, driven_on, joined, driven}
-use Rattle.rules.specs.Legal.{Each, on_the_way, inverters, Legal, NoneLegal}
+use Rattle.rules.specs.Legal.{Each, on_the_way, inverters, NoneLegal}
 use Rattle.rules.specs.Judge.{judge_each}
 use Rattle.rules.specs.Checked.{placed_from, within_limit, first_sink, placement_judged}
 

@@ -1,14 +1,12 @@
 -- Laws of `hanging`: one step of its scan, by the node looked at; and that nothing hangs at a sink.
 use Prim.Native.Nat.{ℕ, zero, suc, ◌-◌, ◌<◌, ◌≤◌}
-use mathlib.Core.Path.{◌≡◌, refl, sym, ◌∙◌}
+use mathlib.Core.Path.{◌≡◌, refl}
 use native.Mathlib.Omega.{arith}
-use native.Mathlib.Decide.{ℕ_discrete}
-use lib.ListN.{length, get_or}
 use lib.Dec.{eqb}
 use borrow.Author.Tests.{eq-eqb, ne_eqb}
 use Rattle.rules.specs.Choose.{pick}
 use Rattle.rules.specs.Net.{Net, places, parent, kind}
-use Rattle.rules.specs.Tree.{Hanging, none, hung, hanging}
+use Rattle.rules.specs.Tree.{none, hung, hanging}
 use Rattle.rules.specs.Sound.{SoundNet}
 
 -- one step, at node i

@@ -1,5 +1,5 @@
 -- The judge's numbers: each is given, at its place, exactly where its row says. The rows exclude each other, because the two laws together leave one number and one place.
-use Prim.Native.Nat.{ℕ, zero, suc, ◌+◌, ◌-◌, ◌≤◌, ◌<◌}
+use Prim.Native.Nat.{ℕ, zero, suc, ◌-◌, ◌≤◌, ◌<◌}
 use mathlib.Core.Path.{◌≡◌, refl, sym, subst, ap, ◌∙◌}
 use mathlib.Core.Bool.{Bool, true, false}
 use native.Mathlib.Omega.{arith}
@@ -16,7 +16,7 @@ use Rattle.rules.specs.Choose.{pick}
 use Rattle.rules.specs.Net.{Net, places, parent, kind, node}
 use Rattle.rules.proofs.Tests.{unless_met}
 use Rattle.rules.proofs.Each.{first_refused, refused_first}
-use Rattle.rules.specs.Judge.{unless, then_judge, judge_each, columns_fit, limits_in_range, source_clear, node_in_range, parent_fits, node_judged, nodes_judged, children, has_child, childed, judged}
+use Rattle.rules.specs.Judge.{unless, then_judge, columns_fit, limits_in_range, source_clear, node_in_range, parent_fits, node_judged, nodes_judged, children, has_child, childed, judged}
 
 -- before the nodes are judged, all this holds
 pub record Begun (n : Net) : Type 0 where

@@ -1,10 +1,10 @@
 -- The numbers of a placement's judgement on a sound net, each exactly where its fault stands first; and the numbers that a net's own judgement can give.
-use Prim.Native.Nat.{ℕ, ◌-◌, ◌≤◌}
+use Prim.Native.Nat.{ℕ, ◌≤◌}
 use mathlib.Core.Path.{◌≡◌, refl, sym, ap, ◌∙◌}
-use mathlib.Core.Bool.{Bool, true}
+use mathlib.Core.Bool.{true}
 use mathlib.Core.Logic.{◌↔◌}
 use mathlib.Core.List.{List}
-use lib.Dec.{eqb, ltb, leb}
+use lib.Dec.{eqb, leb}
 use lib.ListN.{length}
 use borrow.Author.Tests.{eqb-true, leb-true, eq-eqb, le-leb}
 use Rattle.rules.specs.declared.Entry.{Entry}
@@ -13,7 +13,6 @@ use Rattle.rules.specs.declared.Refusal.TheVariants.{WrongColumns}
 use Rattle.rules.specs.declared.Judged.{Judged}
 use Rattle.rules.specs.declared.Judged.TheVariants.{Sound, Refused}
 use Rattle.rules.specs.Figures.{most_entries}
-use Rattle.rules.specs.Choose.{pick}
 use Rattle.rules.specs.Refusal.{number_of, place_of, judged_number, judged_place}
 use Rattle.rules.specs.Net.{Net}
 use Rattle.rules.specs.Load.{offsets_on, drivers}

@@ -1,7 +1,7 @@
 -- What `judged n ≡ Sound` says, fact by fact: each test of the judge was met, at every node.
-use Prim.Native.Nat.{ℕ, zero, suc, ◌+◌, ◌-◌, ◌*◌, ◌≤◌, ◌<◌}
-use mathlib.Core.Path.{◌≡◌, refl, sym, subst, ap, ◌∙◌}
-use mathlib.Core.Bool.{Bool, true, false}
+use Prim.Native.Nat.{ℕ, zero, suc, ◌-◌, ◌*◌, ◌≤◌, ◌<◌}
+use mathlib.Core.Path.{◌≡◌}
+use mathlib.Core.Bool.{true}
 use mathlib.Core.List.{List}
 use native.Mathlib.Omega.{arith}
 use native.Mathlib.Decide.{ℕ_discrete, dec_lt}
@@ -10,13 +10,12 @@ use lib.Dec.{eqb, ltb, leb}
 use borrow.Author.Tests.{eqb-true, ltb-true, leb-true, eq-eqb, ne_eqb}
 use Rattle.rules.specs.declared.Limits.{Limits}
 use Rattle.rules.specs.declared.Node.{Node}
-use Rattle.rules.specs.declared.Judged.{Judged}
-use Rattle.rules.specs.declared.Judged.TheVariants.{Sound, Refused}
+use Rattle.rules.specs.declared.Judged.TheVariants.{Sound}
 use Rattle.rules.specs.declared.Refusal.TheVariants.{OutOfRange, WrongParent, Childless, WrongColumns}
 use Rattle.rules.specs.Figures.{most_limit, most_wire, most_pin, most_nodes, most_places, most_children}
 use Rattle.rules.specs.Choose.{pick, both}
 use Rattle.rules.specs.Net.{Net, places, parent, wire, kind, pin, polarity, node}
-use Rattle.rules.specs.Judge.{unless, then_judge, columns_fit, limits_in_range, source_clear, end_in_range, node_in_range, children, parent_fits, node_judged, nodes_judged, has_child, childed, judged}
+use Rattle.rules.specs.Judge.{unless, columns_fit, limits_in_range, source_clear, end_in_range, node_in_range, children, parent_fits, node_judged, nodes_judged, has_child, childed, judged}
 use Rattle.rules.specs.Sound.{SoundNet}
 use Rattle.rules.proofs.Tests.{both_met, unless_met, then_met}
 use Rattle.rules.proofs.Each.{each_met}

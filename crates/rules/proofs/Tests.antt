@@ -6,7 +6,7 @@ use native.Mathlib.Omega.{arith}
 use Rattle.rules.specs.declared.Refusal.{Refusal}
 use Rattle.rules.specs.declared.Judged.{Judged}
 use Rattle.rules.specs.declared.Judged.TheVariants.{Sound, Refused}
-use Rattle.rules.specs.Choose.{pick, both}
+use Rattle.rules.specs.Choose.{both}
 use Rattle.rules.specs.Judge.{unless, then_judge}
 
 pub never : {A : Type 0} → true ≡ false → A

@@ -1,9 +1,9 @@
 -- The judgement of anybody's placement on a net: RULES 5.6, after the net's own (RULES 5.11).
-use Rattle.std.specs.Prelude.{ℕ, zero, suc, ◌+◌, ◌-◌, Bool, true, false, List, [], ◌∷◌, length, eqb, ltb, leb}
+use Rattle.std.specs.Prelude.{ℕ, zero, suc, ◌-◌, Bool, true, List, [], ◌∷◌, length, eqb, ltb, leb}
 use Rattle.rules.specs.declared.Entry.{Entry}
 use Rattle.rules.specs.declared.Refusal.TheVariants.{WrongColumns, Misplaced, Overloaded, WrongParity}
 use Rattle.rules.specs.declared.Judged.{Judged}
-use Rattle.rules.specs.declared.Judged.TheVariants.{Sound, Refused}
+use Rattle.rules.specs.declared.Judged.TheVariants.{Sound}
 use Rattle.rules.specs.Figures.{most_entries}
 use Rattle.rules.specs.Choose.{pick, both}
 use Rattle.rules.specs.Net.{Net, places, wire, kind}

@@ -1,11 +1,10 @@
 -- Which net eases another (RULES 6.16), how 13 is found (RULES 6.17), and a placement cut to the new wires (RULES 6.18).
-use Rattle.std.specs.Prelude.{ℕ, zero, suc, ◌-◌, ◌≤◌, min, ◌≡◌, List, map, Bool, eqb, leb}
+use Rattle.std.specs.Prelude.{ℕ, ◌-◌, ◌≤◌, min, ◌≡◌, List, map, Bool, eqb, leb}
 use Rattle.rules.specs.declared.Entry.{Entry}
 use Rattle.rules.specs.declared.Limits.{Limits}
 use Rattle.rules.specs.declared.Node.{Node}
 use Rattle.rules.specs.declared.Refusal.TheVariants.{NotEased}
 use Rattle.rules.specs.declared.Judged.{Judged}
-use Rattle.rules.specs.declared.Judged.TheVariants.{Sound}
 use Rattle.rules.specs.Choose.{both}
 use Rattle.rules.specs.Net.{Net, places, wire, node}
 use Rattle.rules.specs.Net as columns

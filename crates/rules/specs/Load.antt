@@ -1,5 +1,5 @@
 -- What lies below a node, what a wire hands up, what each repeater drives (RULES 2.6 to 2.11). Loads are natural numbers, so none is too large (RULES 2.19).
-use Rattle.std.specs.Prelude.{ℕ, zero, suc, ◌+◌, ◌-◌, List, [], ◌∷◌, ◌++◌, length, eqb}
+use Rattle.std.specs.Prelude.{ℕ, zero, suc, ◌+◌, ◌-◌, List, [], ◌∷◌, ◌++◌, eqb}
 use Rattle.rules.specs.declared.Entry.{Entry}
 use Rattle.rules.specs.Choose.{pick}
 use Rattle.rules.specs.Net.{Net, places, wire, kind, pin}

@@ -1,11 +1,10 @@
 -- What is said for the first bytes of the files is said for all of them.
-use Prim.Native.Nat.{ℕ, ◌≤◌, ◌<◌}
+use Prim.Native.Nat.{ℕ}
 use native.Mathlib.Omega.{arith}
 use mathlib.Core.Path.{◌≡◌, sym, ap, ◌∙◌}
 use mathlib.Core.List.{List}
 use lib.ListN.{length, take}
 use Rattle.rules.specs.Net.{Net}
-use Rattle.field.proofs.Numbers.{AreBytes}
 use Rattle.net_file.specs.NetFile.{net_of}
 use Rattle.net_file.proofs.FirstBytes as net_bytes
 use Rattle.placement_file.specs.File.{placement_of}

@@ -1,6 +1,5 @@
 -- `count_line` lays the parts of its line one after the other.
 use native.Mathlib.Omega.{arith}
-use borrow.Author.Rules.{rules}
 use Rattle.answer.proofs.Digits.{said_few}
 use Rattle.answer.proofs.Laying.{ended, kept}
 use Rattle.answer.specs.Text.{count_line}

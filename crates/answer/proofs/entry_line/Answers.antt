@@ -1,6 +1,5 @@
 -- `entry_line` lays the parts of its line one after the other; a wire number has at most 5 digits, an offset 10, a load 20.
 use native.Mathlib.Omega.{arith}
-use borrow.Author.Rules.{rules}
 use Rattle.answer.specs.Text.{entry_line, wire, offset, drives}
 use Rattle.answer.proofs.Digits.{said_few}
 use Rattle.answer.proofs.Laying.{then_laid, ended, kept}

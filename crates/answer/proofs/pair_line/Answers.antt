@@ -1,6 +1,5 @@
 -- `pair_line` lays the parts of its line one after the other.
 use native.Mathlib.Omega.{arith}
-use borrow.Author.Rules.{rules}
 use Rattle.answer.proofs.Digits.{said_few}
 use Rattle.answer.proofs.Laying.{then_laid, ended, kept}
 use Rattle.answer.specs.Text.{pair_line}

@@ -1,7 +1,6 @@
-use Prim.Native.Nat.{◌≤◌, ◌-◌}
 use native.Mathlib.Omega.{arith}
-use mathlib.Core.Path.{◌≡◌, refl, ap, ◌∙◌}
-use lib.ListN.{length, take, length-set}
+use mathlib.Core.Path.{refl, ap, ◌∙◌}
+use lib.ListN.{length-set}
 use lib.Seq.{sets, take_all}
 use borrow.Author.Rules.{rules}
 use Rattle.answer.proofs.Laying.{one_more}

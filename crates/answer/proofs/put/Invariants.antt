@@ -1,11 +1,8 @@
 -- `put` lays the bytes: after i turns the first i of them are laid.
 use Prim.Native.Nat.{◌≤◌, ◌-◌}
-use native.Mathlib.Omega.{arith}
-use mathlib.Core.Path.{◌≡◌, refl, ap, ◌∙◌}
-use lib.ListN.{length, take, length-set}
-use lib.Seq.{sets, take_all}
-use borrow.Author.Rules.{rules}
-use Rattle.answer.proofs.Laying.{one_more}
+use mathlib.Core.Path.{◌≡◌}
+use lib.ListN.{length, take}
+use lib.Seq.{sets}
 use Rattle.answer.proofs.put.Given as goal
 
 abbrev pub invariant-loop-i : goal.invariant-loop-i

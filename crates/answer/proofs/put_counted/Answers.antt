@@ -2,7 +2,6 @@
 use native.Mathlib.Omega.{arith}
 use mathlib.Core.Path.{ap}
 use lib.ListN.{length}
-use borrow.Author.Rules.{rules}
 use Rattle.answer.proofs.Laying.{then_laid, laid_as, kept, of_line, line_size}
 use Rattle.answer.specs.Text.{counted_text}
 use Rattle.answer.proofs.put_counted.Goals as goal

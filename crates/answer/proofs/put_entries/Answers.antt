@@ -1,10 +1,9 @@
-use Prim.Native.Nat.{◌+◌, ◌*◌, ◌-◌, ◌≤◌}
 use native.Mathlib.Omega.{arith}
 use mathlib.Core.Path.{◌≡◌, refl, sym, ap}
-use lib.ListN.{length, take}
+use lib.ListN.{length}
 use lib.Seq.{take_all}
 use borrow.Author.Rules.{rules}
-use Rattle.answer.specs.Text.{Laid, entry_lines}
+use Rattle.answer.specs.Text.{entry_lines}
 use Rattle.answer.proofs.Entries.{one_entry_more}
 use Rattle.answer.proofs.Laying.{then_laid, laid_as, of_line, line_size, kept}
 use Rattle.answer.proofs.put_entries.Goals as goal

@@ -1,13 +1,8 @@
 -- `put_entries` lays one line an entry: after k turns those of the first k entries stand, in at most 64 bytes each.
 use Prim.Native.Nat.{◌+◌, ◌*◌, ◌-◌, ◌≤◌}
-use native.Mathlib.Omega.{arith}
-use mathlib.Core.Path.{◌≡◌, refl, sym, ap}
+use mathlib.Core.Path.{◌≡◌}
 use lib.ListN.{length, take}
-use lib.Seq.{take_all}
-use borrow.Author.Rules.{rules}
 use Rattle.answer.specs.Text.{Laid, entry_lines}
-use Rattle.answer.proofs.Entries.{one_entry_more}
-use Rattle.answer.proofs.Laying.{then_laid, laid_as, of_line, line_size, kept}
 use Rattle.answer.proofs.put_entries.Given as goal
 
 abbrev pub invariant-loop-k : goal.invariant-loop-k

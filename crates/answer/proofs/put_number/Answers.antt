@@ -2,7 +2,6 @@
 use mathlib.Core.Path.{◌≡◌, ap, ◌∙◌}
 use lib.ListN.{length, take}
 use native.Mathlib.Omega.{arith}
-use borrow.Author.Rules.{rules}
 use Rattle.answer.specs.Text.{digits}
 use Rattle.answer.proofs.Digits.{as_digits}
 use Rattle.answer.proofs.Laying.{laid_as}

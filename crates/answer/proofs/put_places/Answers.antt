@@ -1,11 +1,10 @@
 use native.Mathlib.Omega.{arith}
-use mathlib.Core.Path.{◌≡◌, refl, sym, ap}
-use lib.ListN.{length, take}
-use Prim.Native.Nat.{◌+◌, ◌*◌, ◌-◌, ◌≤◌}
+use mathlib.Core.Path.{refl, sym, ap}
+use lib.ListN.{length}
 use lib.Seq.{take_all}
 use borrow.Author.Rules.{rules}
 use Rattle.answer.proofs.Laying.{then_laid, laid_as, kept, of_line, line_size}
-use Rattle.answer.specs.Text.{Laid, place_lines}
+use Rattle.answer.specs.Text.{place_lines}
 use Rattle.answer.proofs.Entries.{one_place_more}
 use Rattle.answer.proofs.put_places.Goals as goal
 

@@ -1,13 +1,8 @@
 -- `put_places` lays one line an entry: after k turns those of the first k entries stand, in at most 64 bytes each.
-use native.Mathlib.Omega.{arith}
-use mathlib.Core.Path.{◌≡◌, refl, sym, ap}
+use mathlib.Core.Path.{◌≡◌}
 use lib.ListN.{length, take}
 use Prim.Native.Nat.{◌+◌, ◌*◌, ◌-◌, ◌≤◌}
-use lib.Seq.{take_all}
-use borrow.Author.Rules.{rules}
-use Rattle.answer.proofs.Laying.{then_laid, laid_as, kept, of_line, line_size}
 use Rattle.answer.specs.Text.{Laid, place_lines}
-use Rattle.answer.proofs.Entries.{one_place_more}
 use Rattle.answer.proofs.put_places.Given as goal
 
 abbrev pub invariant-loop-k : goal.invariant-loop-k

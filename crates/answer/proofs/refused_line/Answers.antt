@@ -1,6 +1,5 @@
 -- `refused_line` is the line of a refusal's number and place.
-use borrow.Author.Rules.{rules}
-use Rattle.answer.specs.Text.{refused_line, place}
+use Rattle.answer.specs.Text.{refused_line}
 use Rattle.answer.proofs.refused_line.Goals as goal
 
 pub returns : goal.returns

@@ -1,7 +1,6 @@
 -- `say` lays a word, and its number after it.
 use lib.ListN.{length-append}
 use native.Mathlib.Omega.{arith}
-use borrow.Author.Rules.{rules}
 use Rattle.answer.specs.Text.{said}
 use Rattle.answer.proofs.Laying.{then_laid, kept}
 use Rattle.answer.proofs.say.Goals as goal

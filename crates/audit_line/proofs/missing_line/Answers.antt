@@ -1,6 +1,5 @@
 -- `missing_line` shows the line of each case.
 use native.Mathlib.Omega.{arith}
-use borrow.Author.Rules.{rules}
 use Rattle.audit_line.proofs.Lines.{shows_missing}
 use Rattle.audit_line.specs.declared.Missing.TheVariants.{NoNet, NetUnreadable, NoPlacement, PlacementUnreadable}
 use Rattle.audit_line.proofs.missing_line.Goals as goal

@@ -1,7 +1,6 @@
 -- `refuse` shows the refusal after the word.
 use native.Mathlib.Omega.{arith}
 use mathlib.Core.Path.{refl}
-use borrow.Author.Rules.{rules}
 use Rattle.reply.proofs.Showing.{shown}
 use Rattle.audit_line.proofs.refuse.Goals as goal
 

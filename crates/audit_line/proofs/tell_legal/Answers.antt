@@ -1,7 +1,6 @@
 -- `tell_legal` shows both counts.
 use native.Mathlib.Omega.{arith}
 use borrow.Author.Tests.{eq-eqb, ne_eqb}
-use borrow.Author.Rules.{rules}
 use Rattle.answer.proofs.Laying.{laid_as, of_line, line_size}
 use Rattle.reply.proofs.Showing.{shown}
 use Rattle.audit_line.proofs.tell_legal.Goals as goal

@@ -1,14 +1,11 @@
 -- `audit` shows the net file's refusal, or what is shown of the net that the reader left in the columns.
-use Prim.Native.Nat.{ℕ, ◌≤◌}
+use Prim.Native.Nat.{ℕ}
 use native.Mathlib.Omega.{arith}
-use mathlib.Core.Path.{◌≡◌, refl, sym}
-use mathlib.Core.List.{List}
-use lib.ListN.{length, take, replicate, length-replicate}
-use lib.Seq.{length-take-le}
-use borrow.Author.Rules.{rules}
-use Rattle.rules.specs.Net.{Net, net, unlimited}
+use mathlib.Core.Path.{refl}
+use lib.ListN.{replicate, length-replicate}
+use Rattle.rules.specs.Net.{net, unlimited}
 use Rattle.field.proofs.Numbers.{AreBytes}
-use Rattle.net_file.proofs.Held.{Roomy, Holds, found, unread_says, holds}
+use Rattle.net_file.proofs.Held.{Roomy, found, unread_says, holds}
 use Rattle.audit_reply.specs.Audits.{no_net}
 use Rattle.audit_reply.proofs.audit.Goals as goal
 

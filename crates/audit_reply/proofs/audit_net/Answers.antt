@@ -1,7 +1,4 @@
 -- `audit_net` shows the checker's refusal, or both counts.
-use Prim.Native.Nat.{ℕ}
-use mathlib.Core.List.{List}
-use borrow.Author.Rules.{rules}
 use Rattle.rules.specs.Net.{Net, net_at}
 use Rattle.audit_reply.proofs.Auditing.{reached, legal_says, refused_says}
 use Rattle.audit_reply.proofs.audit_net.Goals as goal

@@ -1,10 +1,5 @@
 -- `audit_placement` shows the placement file's refusal, or what is shown of the entries that the reader left in the columns.
-use Prim.Native.Nat.{ℕ}
 use native.Mathlib.Omega.{arith}
-use mathlib.Core.Path.{sym}
-use mathlib.Core.List.{List}
-use lib.Seq.{length-take-le}
-use borrow.Author.Rules.{rules}
 use Rattle.rules.specs.Net.{Net, net_at}
 use Rattle.placement_file.proofs.Held.{Entries, placement_read, placement_refused}
 use Rattle.audit_reply.proofs.Auditing.{unread_says, read_says}

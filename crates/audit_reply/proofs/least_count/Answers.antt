@@ -1,7 +1,6 @@
 -- `least_count` is the least count: the solver refuses no net that has a legal placement of at most 4,096 entries.
 use native.Mathlib.Omega.{arith}
 use lib.ListN.{replicate}
-use borrow.Author.Rules.{rules}
 use Rattle.rules.specs.Net.{Net, net_at}
 use Rattle.audit_reply.proofs.Auditing.{least_placed, never_refused}
 use Rattle.audit_reply.proofs.least_count.Goals as goal

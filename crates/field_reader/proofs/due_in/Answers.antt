@@ -1,6 +1,5 @@
 -- `due_in` answers what the definition does: the first byte tells whether the tag is the one that is due.
 use mathlib.Core.Path.{sym, ap, ◌∙◌}
-use borrow.Author.Rules.{rules}
 use Rattle.field.specs.Format.{due_in}
 use Rattle.field.proofs.Reading.{short}
 use Rattle.field.proofs.Due.{as_due, this_due, other_due}

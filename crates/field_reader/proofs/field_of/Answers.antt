@@ -1,7 +1,6 @@
 -- `field_of` answers what the definition does after its header: each way out is one of its three cases.
 use Prim.Native.Nat.{ℕ}
 use mathlib.Core.Path.{sym, ap, ◌∙◌}
-use borrow.Author.Rules.{rules}
 use Rattle.field.specs.declared.FieldRead.TheVariants.{Cut}
 use Rattle.field.specs.Format.{length_of, value_in}
 use Rattle.field.proofs.Reading.{not_due, cut, got}

@@ -1,5 +1,4 @@
 -- `read4` reads four bytes as two and two.
-use borrow.Author.Rules.{rules}
 use Rattle.field.proofs.Numbers.{number_halves}
 use Rattle.field_reader.proofs.read4.Goals as goal
 

@@ -4,7 +4,6 @@ use mathlib.Core.List.{List}
 use mathlib.Core.Path.{ap, ◌∙◌}
 use native.Mathlib.Omega.{arith}
 use lib.ListN.{length-drop}
-use borrow.Author.Rules.{rules}
 use Rattle.field.specs.Format.{field_in, due_in}
 use Rattle.field.proofs.Reading.{short, part_drop}
 use Rattle.field_reader.proofs.read_due.Goals as goal

@@ -2,7 +2,6 @@
 use mathlib.Core.Path.{ap, ◌∙◌}
 use native.Mathlib.Omega.{arith}
 use lib.ListN.{length-drop}
-use borrow.Author.Rules.{rules}
 use Rattle.field.specs.Format.{field_in}
 use Rattle.field.proofs.Reading.{short, part_drop}
 use Rattle.field_reader.proofs.read_field.Goals as goal

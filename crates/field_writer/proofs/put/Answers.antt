@@ -5,7 +5,6 @@ use Prim.Native.Nat.{ℕ}
 use native.Mathlib.Omega.{arith}
 use lib.ListN.{length}
 use lib.Seq.{sets}
-use borrow.Author.Rules.{rules}
 use Rattle.field.specs.declared.Value.{Value}
 use Rattle.field.specs.Format.{bytes_of}
 use Rattle.field_writer.proofs.put.Goals as goal

@@ -2,7 +2,6 @@
 use native.Mathlib.Numerals.{towards_suc}
 use native.Mathlib.Omega.{arith}
 use lib.ListN.{length-set}
-use borrow.Author.Rules.{rules}
 use Rattle.field_writer.proofs.put2.Goals as goal
 
 pub bounds-out-k-2 : goal.bounds-out-k-2

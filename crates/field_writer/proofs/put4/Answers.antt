@@ -1,5 +1,4 @@
 -- `put4` lays four bytes as two and two.
-use borrow.Author.Rules.{rules}
 use Rattle.field.proofs.Numbers.{four_laid}
 use Rattle.field_writer.proofs.put4.Goals as goal
 

@@ -1,5 +1,4 @@
 -- `put_count` lays a header and two bytes: the stores are what `sets` computes to.
-use borrow.Author.Rules.{rules}
 use Rattle.field_writer.proofs.put_count.Goals as goal
 
 pub returns : goal.returns

@@ -1,5 +1,4 @@
 -- `put_pair` lays a header and two numbers: the stores are what `sets` computes to.
-use borrow.Author.Rules.{rules}
 use Rattle.field_writer.proofs.put_pair.Goals as goal
 
 pub returns : goal.returns

@@ -1,7 +1,6 @@
 -- `put_sink` lays what `put_pair` does, a number and a byte: the stores are what `sets` computes to.
 use native.Mathlib.Omega.{arith}
 use lib.ListN.{length-set}
-use borrow.Author.Rules.{rules}
 use Rattle.field_writer.proofs.put_sink.Goals as goal
 
 pub shape_of-out : goal.shape_of-out

@@ -1,7 +1,6 @@
 -- `size` answers the length of the bytes, variant by variant.
 use mathlib.Core.Path.{◌≡◌, sym, ap}
 use lib.ListN.{length}
-use borrow.Author.Rules.{rules}
 use Rattle.field.specs.declared.Value.{Value}
 use Rattle.field.specs.Format.{bytes_of}
 use Rattle.field_writer.proofs.size.Goals as goal

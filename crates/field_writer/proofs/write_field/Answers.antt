@@ -1,5 +1,4 @@
 -- `write_field` writes where there is room and leaves all as it was where there is none.
-use borrow.Author.Rules.{rules}
 use Rattle.field.specs.Format.{bytes_of}
 use Rattle.field.proofs.Writing.{too_little, enough}
 use Rattle.field_writer.proofs.write_field.Goals as goal

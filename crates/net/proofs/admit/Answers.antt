@@ -1,7 +1,6 @@
 -- `admit` answers `admitted`: each early return is the first of the two tests that fails.
 use mathlib.Core.Path.{sym, ◌∙◌}
 use borrow.Author.Tests.{not-true, not-false}
-use borrow.Author.Rules.{rules}
 use Rattle.net.proofs.admit.Goals as goal
 
 pub returns-then-not-node_in_range : goal.returns-then-not-node_in_range

@@ -1,10 +1,6 @@
-use Prim.Native.Nat.{◌-◌}
 use mathlib.Core.Path.{sym, ◌∙◌}
-use lib.ListN.{get_or}
 use native.Mathlib.Omega.{arith}
-use borrow.Author.Rules.{rules}
-use Rattle.rules.specs.Judge.{has_child}
-use Rattle.rules.proofs.Each.{Going, going_start, going_stop, going_next, going_end}
+use Rattle.rules.proofs.Each.{going_start, going_stop, going_next, going_end}
 use Rattle.net.proofs.all_childed.Goals as goal
 
 pub loop-i-init : goal.loop-i-init

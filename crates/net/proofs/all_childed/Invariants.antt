@@ -1,11 +1,8 @@
 -- `all_childed` answers the lowest childless node: its loop goes through `judge_each`, one node a turn.
 use Prim.Native.Nat.{◌-◌}
-use mathlib.Core.Path.{sym, ◌∙◌}
 use lib.ListN.{get_or}
-use native.Mathlib.Omega.{arith}
-use borrow.Author.Rules.{rules}
 use Rattle.rules.specs.Judge.{has_child}
-use Rattle.rules.proofs.Each.{Going, going_start, going_stop, going_next, going_end}
+use Rattle.rules.proofs.Each.{Going}
 use Rattle.net.proofs.all_childed.Given as goal
 
 abbrev pub invariant-loop-i : goal.invariant-loop-i

@@ -1,6 +1,5 @@
 -- `judge` answers `judged`: each early return is the refusal of the first test that fails, and the rest is a yes or judged in order.
 use mathlib.Core.Path.{ap, ◌∙◌}
-use borrow.Author.Rules.{rules}
 use Rattle.rules.specs.Net.{net_at}
 use Rattle.net.specs.Counted.{node_clear}
 use Rattle.net.proofs.Judging.{passed, failed, level, within, judged_columns, judged_limits, judged_source, judged_rest, tree_passed}

@@ -1,7 +1,6 @@
 -- `judge_in_order` answers `tree_judged`: a refusal of the nodes, or what the last call finds of the childless.
 use mathlib.Core.Path.{sym, ◌∙◌}
 use native.Mathlib.Omega.{arith}
-use borrow.Author.Rules.{rules}
 use Rattle.screen.proofs.Tallying.{tallied_start, childed_is}
 use Rattle.net.proofs.Judging.{tree_nodes, tree_last}
 use Rattle.net.proofs.judge_in_order.Goals as goal

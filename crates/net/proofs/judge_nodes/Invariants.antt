@@ -1,14 +1,10 @@
 -- `judge_nodes` answers `nodes_judged`. The loop goes through `judge_each`, and the counts hold the children among the nodes before i.
 use Prim.Native.Nat.{◌-◌}
-use mathlib.Core.Path.{sym, ◌∙◌}
 use lib.ListN.{length}
-use native.Mathlib.Omega.{arith}
-use borrow.Author.Rules.{rules}
 use Rattle.rules.specs.Net.{net, places}
 use Rattle.rules.specs.Judge.{node_judged}
 use Rattle.net.specs.Counted.{Tallied}
-use Rattle.rules.proofs.Each.{Going, going_start, going_stop, going_next, going_end}
-use Rattle.net.proofs.Judging.{admit_is, admit_sound, tallied_after, nodes_refused, nodes_sound}
+use Rattle.rules.proofs.Each.{Going}
 use Rattle.net.proofs.judge_nodes.Given as goal
 
 abbrev pub invariant-loop-i : goal.invariant-loop-i

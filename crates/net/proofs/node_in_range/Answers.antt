@@ -1,5 +1,4 @@
 -- `node_in_range` is the definitions' own chain of tests.
-use borrow.Author.Rules.{rules}
 use Rattle.net.proofs.node_in_range.Goals as goal
 
 pub returns : goal.returns

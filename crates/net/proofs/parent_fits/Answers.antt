@@ -1,6 +1,5 @@
 -- `parent_fits` answers `parent_fits`: the parent is looked up only where it is lower.
 use borrow.Author.Tests.{le-leb, lt-leb, le-ltb, lt-ltb}
-use borrow.Author.Rules.{rules}
 use Rattle.net.proofs.parent_fits.Goals as goal
 
 pub returns-then-i-gt1024 : goal.returns-then-i-gt1024

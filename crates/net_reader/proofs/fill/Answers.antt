@@ -1,11 +1,9 @@
-use Prim.Native.Nat.{◌-◌}
 use native.Mathlib.Omega.{arith}
 use mathlib.Core.Path.{sym, ap}
 use lib.ListN.{length}
 use lib.Seq.{length-sets}
-use borrow.Author.Rules.{rules}
-use Rattle.rules.specs.Net.{Net, net, node, unlimited}
-use Rattle.net_reader.proofs.Copying.{Copying, copy_start, copy_next, copy_end}
+use Rattle.rules.specs.Net.{Net}
+use Rattle.net_reader.proofs.Copying.{copy_start, copy_next, copy_end}
 use Rattle.net_reader.proofs.fill.Goals as goal
 
 pub loop-i-init : goal.loop-i-init

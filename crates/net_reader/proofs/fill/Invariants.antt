@@ -1,12 +1,7 @@
 -- `fill` copies the first n places: what was copied so far is laid over the lent columns.
 use Prim.Native.Nat.{◌-◌}
-use native.Mathlib.Omega.{arith}
-use mathlib.Core.Path.{sym, ap}
-use lib.ListN.{length}
-use lib.Seq.{length-sets}
-use borrow.Author.Rules.{rules}
-use Rattle.rules.specs.Net.{Net, net, node, unlimited}
-use Rattle.net_reader.proofs.Copying.{Copying, copy_start, copy_next, copy_end}
+use Rattle.rules.specs.Net.{net, node, unlimited}
+use Rattle.net_reader.proofs.Copying.{Copying}
 use Rattle.net_reader.proofs.fill.Given as goal
 
 abbrev pub invariant-loop-i : goal.invariant-loop-i

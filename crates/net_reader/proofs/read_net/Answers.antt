@@ -1,7 +1,6 @@
 -- `read_net` reads `net_of`: a file that is refused, columns that are too short, and columns that are filled.
 use native.Mathlib.Omega.{arith}
 use mathlib.Core.Path.{refl}
-use borrow.Author.Rules.{rules}
 use Rattle.rules.specs.Net.{net, unlimited}
 use Rattle.net_reader.proofs.Reading.{read_refused, read_few, read_short, read_whole, room_left, room_enough}
 use Rattle.net_reader.proofs.read_net.Goals as goal

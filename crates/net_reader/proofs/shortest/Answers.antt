@@ -1,6 +1,5 @@
 -- `shortest` is the definitions' own chain of minima.
 use mathlib.Core.Path.{◌∙◌}
-use borrow.Author.Rules.{rules}
 use Rattle.net_reader.proofs.shortest.Goals as goal
 
 pub returns : goal.returns

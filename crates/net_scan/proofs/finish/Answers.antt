@@ -1,6 +1,5 @@
 -- `finish` answers 6 where bytes follow, and else what `all_childed` does.
 use borrow.Author.Tests.{le-leb, lt-leb}
-use borrow.Author.Rules.{rules}
 use Rattle.net_scan.proofs.finish.Goals as goal
 
 pub returns-then-next-s : goal.returns-then-next-s

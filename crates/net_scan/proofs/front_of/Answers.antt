@@ -1,7 +1,6 @@
 -- `front_of` takes the limits out, or refuses with 2, then 3.
 use mathlib.Core.Path.{sym, ap, ◌∙◌}
 use borrow.Author.Tests.{not-true, not-false}
-use borrow.Author.Rules.{rules}
 use Rattle.net_file.specs.NetFile.{front_value}
 use Rattle.net_scan.proofs.Variants.{front_other}
 use borrow.Enum.Refused.{opened}

@@ -1,13 +1,8 @@
 -- `judge_fields` tells `net_from`: what is left of the fields decides, each way out is one of its ways to end, and what was judged is laid over our columns.
 use Prim.Native.Nat.{◌-◌}
-use native.Mathlib.Omega.{arith}
-use mathlib.Core.Path.{sym, ap, ◌∙◌}
-use borrow.Author.Rules.{rules}
-use Rattle.rules.specs.Net.{Net, net, unlimited}
-use Rattle.net_scan.proofs.Judging.{Judging, start, stop_wrong, stop_end, ends, stop_node, fits, next_node}
-use Rattle.net_scan.proofs.Filling.{Filling, fill_start, fill_next, fill_last}
-use Rattle.net_file.proofs.ReadWrite.{end_inside}
-use Rattle.net_scan.proofs.Leaving.{refused_file, sound_file}
+use Rattle.rules.specs.Net.{net, unlimited}
+use Rattle.net_scan.proofs.Judging.{Judging}
+use Rattle.net_scan.proofs.Filling.{Filling}
 use Rattle.net_scan.proofs.judge_fields.Given as goal
 
 abbrev pub invariant-loop-d : goal.invariant-loop-d

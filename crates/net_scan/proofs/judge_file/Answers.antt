@@ -1,6 +1,5 @@
 -- `judge_file` tells `net_of`: what stands at the front decides whether the fields are judged.
 use mathlib.Core.Path.{sym, ap, ◌∙◌}
-use borrow.Author.Rules.{rules}
 use Rattle.net_file.specs.declared.Front.{Front}
 use Rattle.net_file.specs.NetFile.{from_front, net_of}
 use Rattle.net_scan.specs.Kept.{tells}

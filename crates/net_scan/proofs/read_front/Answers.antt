@@ -1,6 +1,5 @@
 -- `read_front` answers `front_of` of what stands at 0, where the limits are due.
 use mathlib.Core.Path.{sym, ap, ◌∙◌}
-use borrow.Author.Rules.{rules}
 use Rattle.net_file.specs.NetFile.{front_of}
 use Rattle.net_scan.proofs.read_front.Goals as goal
 

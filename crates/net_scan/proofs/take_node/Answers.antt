@@ -1,7 +1,6 @@
 -- `take_node` answers `taken_at`, by what the field reader found. A field that was got lies inside the file, so the place after it fits.
 use mathlib.Core.Path.{sym, ap, ◌∙◌}
 use native.Mathlib.Omega.{arith}
-use borrow.Author.Rules.{rules}
 use Rattle.field.proofs.RoundTrip.{Stands, written_read}
 use Rattle.net_file.specs.NetFile.{taken_of, taken_at}
 use Rattle.net_scan.proofs.take_node.Goals as goal

@@ -1,6 +1,5 @@
 -- `taken_of` takes a branch point, a sink or the end out, and refuses the others with 2.
 use mathlib.Core.Path.{sym, ap}
-use borrow.Author.Rules.{rules}
 use Rattle.net_file.specs.NetFile.{taken_value}
 use Rattle.net_scan.proofs.Variants.{taken_other}
 use borrow.Enum.Refused.{opened}

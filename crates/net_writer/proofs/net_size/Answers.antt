@@ -1,13 +1,10 @@
-use Prim.Native.Nat.{◌-◌, ◌≤◌}
 use native.Mathlib.Omega.{arith}
 use mathlib.Core.Path.{refl, ap, ◌∙◌}
 use lib.ListN.{length}
-use borrow.Author.Rules.{rules}
-use Rattle.rules.specs.Net.{net, node, unlimited}
 use Rattle.field.specs.declared.Value.{Value}
 use Rattle.field.specs.Format.{bytes_of}
 use Rattle.net_file.specs.NetFile.{field_of}
-use Rattle.net_writer.proofs.Writing.{Counting, count_next, count_end}
+use Rattle.net_writer.proofs.Writing.{count_next, count_end}
 use Rattle.net_writer.proofs.net_size.Goals as goal
 
 pub loop-i-init : goal.loop-i-init

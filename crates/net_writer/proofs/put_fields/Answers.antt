@@ -1,16 +1,14 @@
-use Prim.Native.Nat.{◌-◌, ◌≤◌}
 use native.Mathlib.Omega.{arith}
 use mathlib.Core.Path.{refl, ap, ◌∙◌}
 use lib.ListN.{length}
 use lib.Seq.{length-sets}
-use borrow.Author.Rules.{rules}
-use Rattle.rules.specs.Net.{net, net_at, node, unlimited}
+use Rattle.rules.specs.Net.{net_at, node, unlimited}
 use Rattle.field.specs.declared.Value.TheVariants.{Limits, End}
 use Rattle.field.specs.Format.{bytes_of}
 use Rattle.field.proofs.Parts.{put_back}
 use Rattle.field.proofs.Writing.{laid_whole}
 use Rattle.net_file.specs.NetFile.{field_of}
-use Rattle.net_writer.proofs.Writing.{Left, Putting, put_start, room_next, put_next, room_end, put_end, put_all}
+use Rattle.net_writer.proofs.Writing.{Left, put_start, room_next, put_next, room_end, put_end, put_all}
 use Rattle.net_writer.proofs.put_fields.Goals as goal
 
 pub loop-i-init : goal.loop-i-init

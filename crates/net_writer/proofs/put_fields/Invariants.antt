@@ -1,17 +1,8 @@
 -- `put_fields` lays the bytes of the net over the buffer: what is left of the nodes says what is still to be laid from where the last field ended.
 use Prim.Native.Nat.{◌-◌, ◌≤◌}
-use native.Mathlib.Omega.{arith}
-use mathlib.Core.Path.{refl, ap, ◌∙◌}
 use lib.ListN.{length}
-use lib.Seq.{length-sets}
-use borrow.Author.Rules.{rules}
-use Rattle.rules.specs.Net.{net, net_at, node, unlimited}
-use Rattle.field.specs.declared.Value.TheVariants.{Limits, End}
-use Rattle.field.specs.Format.{bytes_of}
-use Rattle.field.proofs.Parts.{put_back}
-use Rattle.field.proofs.Writing.{laid_whole}
-use Rattle.net_file.specs.NetFile.{field_of}
-use Rattle.net_writer.proofs.Writing.{Left, Putting, put_start, room_next, put_next, room_end, put_end, put_all}
+use Rattle.rules.specs.Net.{net, node, unlimited}
+use Rattle.net_writer.proofs.Writing.{Putting}
 use Rattle.net_writer.proofs.put_fields.Given as goal
 
 abbrev pub invariant-loop-i : goal.invariant-loop-i

@@ -1,7 +1,6 @@
 -- `write_net` writes `net_bytes`: a net that is refused, a buffer that is too short, and one that is filled.
 use native.Mathlib.Omega.{arith}
 use mathlib.Core.Path.{sym, ◌∙◌}
-use borrow.Author.Rules.{rules}
 use Rattle.rules.specs.Net.{net_at}
 use Rattle.net_writer.proofs.Written.{level, wrote_refused, wrote_short, wrote_whole}
 use Rattle.net_writer.proofs.write_net.Goals as goal

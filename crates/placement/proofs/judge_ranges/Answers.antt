@@ -1,10 +1,7 @@
-use Prim.Native.Nat.{◌-◌}
 use mathlib.Core.Path.{refl}
 use native.Mathlib.Omega.{arith}
 use borrow.Author.Tests.{not-true, not-false}
-use borrow.Author.Rules.{rules}
-use Rattle.rules.proofs.Each.{Going, going_start, going_stop, going_next, going_end}
-use Rattle.placement_file.specs.File.{range_judged}
+use Rattle.rules.proofs.Each.{going_start, going_stop, going_next, going_end}
 use Rattle.placement.proofs.Judging.{range_is}
 use Rattle.placement.proofs.judge_ranges.Goals as goal
 

@@ -1,12 +1,7 @@
 -- `judge_ranges` goes through `judge_each`, one entry a turn.
 use Prim.Native.Nat.{◌-◌}
-use mathlib.Core.Path.{refl}
-use native.Mathlib.Omega.{arith}
-use borrow.Author.Tests.{not-true, not-false}
-use borrow.Author.Rules.{rules}
-use Rattle.rules.proofs.Each.{Going, going_start, going_stop, going_next, going_end}
+use Rattle.rules.proofs.Each.{Going}
 use Rattle.placement_file.specs.File.{range_judged}
-use Rattle.placement.proofs.Judging.{range_is}
 use Rattle.placement.proofs.judge_ranges.Given as goal
 
 abbrev pub invariant-loop-i : goal.invariant-loop-i

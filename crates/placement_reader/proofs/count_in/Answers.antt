@@ -1,5 +1,4 @@
 -- `count_in` takes out a count.
-use borrow.Author.Rules.{rules}
 use Rattle.placement_reader.proofs.Taking.{other_count}
 use borrow.Enum.Refused.{opened}
 use Rattle.placement_reader.proofs.count_in.Goals as goal

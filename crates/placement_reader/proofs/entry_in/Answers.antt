@@ -1,6 +1,5 @@
 -- `entry_in` takes out an entry.
 use mathlib.Core.Path.{sym, ap}
-use borrow.Author.Rules.{rules}
 use Rattle.placement_file.specs.File.{entry_in}
 use Rattle.placement_reader.proofs.Taking.{other_entry, this_entry}
 use borrow.Enum.Refused.{opened}

@@ -1,9 +1,7 @@
-use Prim.Native.Nat.{◌-◌, ◌≤◌}
 use mathlib.Core.Path.{ap, ◌∙◌}
 use native.Mathlib.Omega.{arith}
-use borrow.Author.Rules.{rules}
 use Rattle.placement_file.specs.File.{wire, offset, entry_in, entry_at}
-use Rattle.placement_reader.proofs.Filling.{Column, column_start, column_next, column_end}
+use Rattle.placement_reader.proofs.Filling.{column_start, column_next, column_end}
 use Rattle.placement_reader.proofs.fill.Goals as goal
 
 pub loop-i-init : goal.loop-i-init

@@ -1,10 +1,7 @@
 -- `fill` stores entry i of the file at place i of each column.
 use Prim.Native.Nat.{◌-◌, ◌≤◌}
-use mathlib.Core.Path.{ap, ◌∙◌}
-use native.Mathlib.Omega.{arith}
-use borrow.Author.Rules.{rules}
-use Rattle.placement_file.specs.File.{wire, offset, entry_in, entry_at}
-use Rattle.placement_reader.proofs.Filling.{Column, column_start, column_next, column_end}
+use Rattle.placement_file.specs.File.{wire, offset, entry_at}
+use Rattle.placement_reader.proofs.Filling.{Column}
 use Rattle.placement_reader.proofs.fill.Given as goal
 
 abbrev pub invariant-loop-i : goal.invariant-loop-i

@@ -1,9 +1,7 @@
-use Prim.Native.Nat.{◌-◌}
 use mathlib.Core.Path.{sym, ◌∙◌}
 use native.Mathlib.Omega.{arith}
-use borrow.Author.Rules.{rules}
-use Rattle.rules.proofs.Each.{Going, going_start, going_stop, going_next, going_end}
-use Rattle.placement_file.specs.File.{entry_judged, body_judged}
+use Rattle.rules.proofs.Each.{going_start, going_stop, going_next, going_end}
+use Rattle.placement_file.specs.File.{body_judged}
 use Rattle.placement_reader.proofs.Judging.{then_stop, then_on}
 use Rattle.placement_reader.proofs.judge_body.Goals as goal
 

@@ -1,5 +1,4 @@
 -- `judge_count` is the definition, call by call.
-use borrow.Author.Rules.{rules}
 use Rattle.placement_reader.proofs.Judging.{count_is}
 use Rattle.placement_reader.proofs.judge_count.Goals as goal
 

@@ -1,6 +1,5 @@
 -- `judge_due` answers `due`: each way out is one case of it.
 use mathlib.Core.Path.{sym, ap}
-use borrow.Author.Rules.{rules}
 use Rattle.placement_file.specs.File.{due}
 use Rattle.placement_reader.proofs.judge_due.Goals as goal
 

@@ -1,5 +1,4 @@
 -- `judge_end` is the definition, call by call.
-use borrow.Author.Rules.{rules}
 use Rattle.placement_reader.proofs.Judging.{end_is}
 use Rattle.placement_reader.proofs.judge_end.Goals as goal
 

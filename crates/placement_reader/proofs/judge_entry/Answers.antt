@@ -1,6 +1,5 @@
 -- `judge_entry` is the definition, call by call.
 use Rattle.placement_reader.proofs.Judging.{entry_is}
-use borrow.Author.Rules.{rules}
 use Rattle.placement_reader.proofs.judge_entry.Goals as goal
 
 pub returns : goal.returns

@@ -1,7 +1,6 @@
 -- `judge_file` judges the count, and then the body that it says.
 use mathlib.Core.Path.{sym, ap, ◌∙◌}
 use native.Mathlib.Omega.{arith}
-use borrow.Author.Rules.{rules}
 use Rattle.placement_file.specs.File.{body_judged, file_judged}
 use Rattle.placement_file.proofs.Judging.{few}
 use Rattle.placement_reader.proofs.Judging.{then_stop, then_on}

@@ -1,6 +1,5 @@
 -- `owed_in` is the count in the field at the front.
 use mathlib.Core.Path.{ap, ◌∙◌}
-use borrow.Author.Rules.{rules}
 use Rattle.placement_file.specs.File.{count_in, owed}
 use Rattle.placement_reader.proofs.owed_in.Goals as goal
 

@@ -1,7 +1,6 @@
 -- `read_placement` judges the whole file and then fills: each way out is a way out of the definition.
 use mathlib.Core.Path.{sym, ◌∙◌}
 use native.Mathlib.Omega.{arith}
-use borrow.Author.Rules.{rules}
 use Rattle.placement_file.proofs.Judging.{sound_few}
 use Rattle.placement_reader.proofs.Answers.{read_refused, read_short, read_whole}
 use Rattle.placement_reader.proofs.read_placement.Goals as goal

@@ -1,5 +1,4 @@
 -- `unless` is the definitions' own.
-use borrow.Author.Rules.{rules}
 use Rattle.placement_reader.proofs.unless.Goals as goal
 
 pub returns : goal.returns

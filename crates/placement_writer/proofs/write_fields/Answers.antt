@@ -1,14 +1,12 @@
-use Prim.Native.Nat.{◌-◌}
 use mathlib.Core.Path.{refl, ap, ◌∙◌}
 use lib.ListN.{length}
 use lib.Seq.{length-sets}
 use native.Mathlib.Omega.{arith}
-use borrow.Author.Rules.{rules}
 use Rattle.field.specs.declared.Value.TheVariants.{Count, Entry, End}
 use Rattle.field.specs.Format.{bytes_of}
 use Rattle.field.proofs.Parts.{put_back}
 use Rattle.field.proofs.Writing.{laid_whole}
-use Rattle.placement_writer.proofs.Writing.{Putting, putting_start, putting_next, putting_end}
+use Rattle.placement_writer.proofs.Writing.{putting_start, putting_next, putting_end}
 use Rattle.placement_writer.proofs.write_fields.Goals as goal
 
 pub loop-i-init : goal.loop-i-init

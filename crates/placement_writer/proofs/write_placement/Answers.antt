@@ -2,7 +2,6 @@
 use mathlib.Core.Path.{sym, ◌∙◌}
 use mathlib.Core.List.{[]}
 use native.Mathlib.Omega.{arith}
-use borrow.Author.Rules.{rules}
 use Rattle.placement_writer.proofs.Writing.{write_refused, columns_level, write_short, write_whole}
 use Rattle.placement_writer.proofs.write_placement.Goals as goal
 

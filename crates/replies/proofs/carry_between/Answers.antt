@@ -3,10 +3,8 @@ use native.Mathlib.Omega.{arith}
 use mathlib.Core.Path.{refl, sym}
 use lib.ListN.{take}
 use lib.Seq.{length-take-le}
-use borrow.Author.Rules.{rules}
 use Rattle.rules.specs.Net.{net_at}
 use Rattle.placement_file.proofs.Held.{placement_read, placement_refused}
-use Rattle.placement_file.specs.File.{wire}
 use Rattle.reply.specs.Said.{refusal, placement}
 use Rattle.carry_reply.specs.Carries.{carry_said}
 use Rattle.replies.specs.Replies as say

@@ -1,6 +1,5 @@
 -- `on_columns` says what each verb says.
 use mathlib.Core.Path.{refl}
-use borrow.Author.Rules.{rules}
 use Rattle.rules.specs.Net.{net_at}
 use Rattle.check_reply.specs.Checks.{check_said, loads_said}
 use Rattle.replies.proofs.on_columns.Goals as goal

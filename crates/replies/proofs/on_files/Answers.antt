@@ -1,14 +1,8 @@
 -- `on_files` says the file's refusal, or what is said of the net that the reader left in the columns.
-use Prim.Native.Nat.{ℕ, ◌≤◌}
 use native.Mathlib.Omega.{arith}
-use mathlib.Core.Path.{◌≡◌, refl, sym}
-use mathlib.Core.List.{List}
-use lib.ListN.{length, take}
-use lib.Seq.{length-take-le}
-use borrow.Author.Rules.{rules}
-use Rattle.rules.specs.Net.{Net, net, unlimited}
+use mathlib.Core.Path.{refl}
 use Rattle.field.proofs.Numbers.{AreBytes}
-use Rattle.net_file.proofs.Held.{Holds, roomy, found, unread_says, holds}
+use Rattle.net_file.proofs.Held.{roomy, found, unread_says, holds}
 use Rattle.reply.specs.Said.{refusal, net as word}
 use Rattle.replies.specs.Replies as say
 use Rattle.replies.proofs.on_files.Goals as goal

@@ -3,7 +3,6 @@ use native.Mathlib.Omega.{arith}
 use mathlib.Core.Path.{refl, sym, ap, ◌∙◌}
 use lib.ListN.{length, length-map}
 use lib.Seq.{length-take-le}
-use borrow.Author.Rules.{rules}
 use Rattle.placement_file.proofs.Held.{placement_read, placement_refused, few_entries}
 use Rattle.placement_file.specs.File.{wire, offset}
 use Rattle.reply.specs.Said.{refusal, placement}

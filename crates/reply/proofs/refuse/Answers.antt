@@ -1,7 +1,6 @@
 -- `refuse` shows the line, and no file.
 use native.Mathlib.Omega.{arith}
 use mathlib.Core.Path.{refl}
-use borrow.Author.Rules.{rules}
 use Rattle.reply.proofs.Showing.{shown, nothing}
 use Rattle.reply.proofs.refuse.Goals as goal
 

@@ -1,6 +1,5 @@
 -- `write_file` shows the file: it is never refused.
 use native.Mathlib.Omega.{arith}
-use borrow.Author.Rules.{rules}
 use Rattle.rules.specs.Load.{entries}
 use Rattle.reply.proofs.Writing.{wrote_shows, never_refused}
 use Rattle.reply.proofs.write_file.Goals as goal

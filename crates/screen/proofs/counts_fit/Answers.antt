@@ -1,9 +1,4 @@
-use Prim.Native.Nat.{◌-◌}
 use mathlib.Core.Path.{refl}
-use lib.ListN.{length, get_or}
-use native.Mathlib.Omega.{arith}
-use borrow.Author.Rules.{rules}
-use Rattle.screen.specs.Screened.{Every, count_fits}
 use Rattle.screen.proofs.Passing.{every_start, every_next, every_end}
 use Rattle.screen.proofs.counts_fit.Goals as goal
 

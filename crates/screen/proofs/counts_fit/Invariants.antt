@@ -1,11 +1,7 @@
 -- `counts_fit` looks at every count: where it answers yes each one fits its node's kind.
 use Prim.Native.Nat.{◌-◌}
-use mathlib.Core.Path.{refl}
 use lib.ListN.{length, get_or}
-use native.Mathlib.Omega.{arith}
-use borrow.Author.Rules.{rules}
 use Rattle.screen.specs.Screened.{Every, count_fits}
-use Rattle.screen.proofs.Passing.{every_start, every_next, every_end}
 use Rattle.screen.proofs.counts_fit.Given as goal
 
 abbrev pub invariant-loop-v : goal.invariant-loop-v

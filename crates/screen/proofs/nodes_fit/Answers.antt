@@ -1,10 +1,5 @@
-use Prim.Native.Nat.{◌-◌}
 use mathlib.Core.Path.{refl}
-use lib.ListN.{length}
 use native.Mathlib.Omega.{arith}
-use borrow.Author.Rules.{rules}
-use Rattle.rules.specs.Net.{net}
-use Rattle.screen.specs.Screened.{Every, node_fits}
 use Rattle.screen.proofs.Passing.{every_start, every_next, every_end}
 use Rattle.screen.proofs.nodes_fit.Goals as goal
 

@@ -1,12 +1,7 @@
-use Prim.Native.Nat.{◌-◌, ◌≤◌}
 use mathlib.Core.Path.{◌≡◌}
 use lib.ListN.{length, get_or}
 use native.Mathlib.Omega.{arith}
 use borrow.Author.Tests.{not-false}
-use borrow.Author.Rules.{rules}
-use Rattle.rules.specs.declared.Limits.{Limits}
-use Rattle.rules.specs.Net.{net}
-use Rattle.screen.specs.Screened.{Tallied}
 use Rattle.screen.proofs.Tallying.{tallied_start, tallied_next, count_below}
 use Rattle.screen.proofs.Passing.{lower_met, passed, not_passed}
 use Rattle.screen.proofs.passes.Goals as goal

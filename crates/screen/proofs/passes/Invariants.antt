@@ -1,15 +1,9 @@
 -- `passes` says yes only of a net that no node refuses: the loop counts each child, and the two passes beside it meet the rest.
 use Prim.Native.Nat.{◌-◌, ◌≤◌}
-use mathlib.Core.Path.{◌≡◌}
-use lib.ListN.{length, get_or}
-use native.Mathlib.Omega.{arith}
-use borrow.Author.Tests.{not-false}
-use borrow.Author.Rules.{rules}
+use lib.ListN.{length}
 use Rattle.rules.specs.declared.Limits.{Limits}
 use Rattle.rules.specs.Net.{net}
 use Rattle.screen.specs.Screened.{Tallied}
-use Rattle.screen.proofs.Tallying.{tallied_start, tallied_next, count_below}
-use Rattle.screen.proofs.Passing.{lower_met, passed, not_passed}
 use Rattle.screen.proofs.passes.Given as goal
 
 -- the limits are not at hand in the loop, and no count goes by them

@@ -1,10 +1,7 @@
 -- `solve_net` says of a net what the solver answers: a refusal, or the placement in its columns as a text and as a file.
 use Prim.Native.Nat.{ℕ}
 use native.Mathlib.Omega.{arith}
-use mathlib.Core.Path.{sym}
-use mathlib.Core.List.{List}
 use lib.ListN.{replicate, length-replicate}
-use borrow.Author.Rules.{rules}
 use Rattle.rules.specs.Net.{Net, net_at}
 use Rattle.solution.specs.Answer.{Outcome}
 use Rattle.solve_reply.proofs.Solving.{Places, outcome, places, replies_placed, replies_refusal}

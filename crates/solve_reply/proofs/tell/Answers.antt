@@ -5,7 +5,6 @@ use mathlib.Core.Path.{◌≡◌, sym, ap, ◌∙◌}
 use mathlib.Core.List.{List}
 use lib.ListN.{length, take, replicate, length-replicate}
 use lib.Seq.{sets, length-sets}
-use borrow.Author.Rules.{rules}
 use Rattle.rules.specs.Net.{Net, net_at}
 use Rattle.rules.specs.Load.{entries, offsets_on, driven, source_drives}
 use Rattle.placement_file.proofs.SamePlacement.{stored}

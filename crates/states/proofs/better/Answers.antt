@@ -1,7 +1,6 @@
 -- The better of two states by their numbers: each return is one case of the frontier's `merge_by`.
 use Rattle.states.proofs.Leaves.{merge_same, merge_one, merge_one', merge_far, merge_far'}
 use mathlib.Core.Path.{sym}
-use borrow.Author.Rules.{rules}
 use Rattle.states.proofs.better.Goals as goal
 
 pub returns-then-m-n : goal.returns-then-m-n

@@ -2,7 +2,6 @@
 use native.Mathlib.Omega.{arith}
 use Rattle.frontier.specs.Frontier.{cand, second}
 use Rattle.states.proofs.Leaves.{req_le, req_room}
-use borrow.Author.Rules.{rules}
 use Rattle.states.proofs.cand.Goals as goal
 
 pub top-t-requires : goal.top-t-requires

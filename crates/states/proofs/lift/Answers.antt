@@ -2,7 +2,6 @@
 use mathlib.Core.Path.{subst, ap}
 use Rattle.states.specs.States.{st, Small, Falls}
 use Rattle.states.proofs.Short.{lift_none, turned}
-use borrow.Author.Rules.{rules}
 use Rattle.states.proofs.lift.Goals as goal
 
 pub returns-in_default-q : goal.returns-in_default-q

@@ -1,5 +1,4 @@
 -- A wire over one polarity alone, the short way.
-use native.Mathlib.Omega.{arith}
 use Rattle.states.proofs.Short.{lift_own}
 use Rattle.states.proofs.lift_one.Goals as goal
 

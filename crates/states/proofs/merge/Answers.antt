@@ -1,5 +1,4 @@
 -- Two states merge by cases of which of them is lost.
-use borrow.Author.Rules.{rules}
 use Rattle.states.proofs.merge.Goals as goal
 
 pub returns-in_default-t : goal.returns-in_default-t

@@ -2,7 +2,6 @@
 use native.Mathlib.Omega.{arith}
 use Rattle.frontier.specs.Frontier.{req}
 use Rattle.states.proofs.Leaves.{ceil_le}
-use borrow.Author.Rules.{rules}
 use Rattle.states.proofs.req.Goals as goal
 
 pub overflow_add-result : goal.overflow_add-result

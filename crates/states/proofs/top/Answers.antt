@@ -2,7 +2,6 @@
 use mathlib.Core.Path.{sym}
 use Rattle.states.specs.States.{model_of}
 use Rattle.states.proofs.Leaves.{T-suc}
-use borrow.Author.Rules.{rules}
 use Rattle.states.proofs.top.Goals as goal
 
 pub returns : goal.returns

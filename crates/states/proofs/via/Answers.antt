@@ -4,7 +4,6 @@ use mathlib.Core.Path.{subst, ◌∙◌}
 use Rattle.frontier.specs.Frontier.{via}
 use Rattle.states.specs.States.{Small}
 use native.Mathlib.Numerals.{add-one}
-use borrow.Author.Rules.{rules}
 use Rattle.states.proofs.via.Goals as goal
 
 pub returns-in_default : goal.returns-in_default

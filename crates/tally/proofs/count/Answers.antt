@@ -1,5 +1,4 @@
 -- `count` adds one record.
-use borrow.Author.Rules.{rules}
 use Rattle.tally.proofs.Tallying.{counts_least, counts_legal, counts_refused, counts_unread}
 use Rattle.tally.proofs.count.Goals as goal
 

@@ -1,7 +1,6 @@
 -- `audit` says of the first bytes what is said of all of them.
 use mathlib.Core.Path.{sym}
 use lib.Seq.{length-take-le}
-use borrow.Author.Rules.{rules}
 use Rattle.whole.proofs.AllBytes.{same_net, same_placement, audited}
 use Rattle.whole.proofs.audit.Goals as goal
 

@@ -3,7 +3,6 @@ use mathlib.Core.Path.{sym}
 use lib.Seq.{length-take-le}
 use native.Mathlib.Omega.{arith}
 use lib.ListN.{length}
-use borrow.Author.Rules.{rules}
 use Rattle.whole.proofs.AllBytes.{conveyed, fits}
 use Rattle.solve_reply.proofs.Whole.{solves_whole}
 use Rattle.whole.proofs.solve.Goals as goal
