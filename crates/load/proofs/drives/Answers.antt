@@ -1,17 +1,22 @@
 -- `load::drives` meets its contract: an arm for each next entry of a wire and two for the lowest, above a sink or not (Wire.antt).
-use mathlib.Core.Path.{refl, sym, subst}
+use mathlib.Core.Path.{◌≡◌, refl, sym}
 use Prim.Native.Nat.{ℕ}
 use mathlib.Core.List.{List}
-use mathlib.Core.Bool.{true, false}
 use native.Mathlib.Omega.{arith}
 use lib.ListN.{get_or}
-use Rattle.rules.specs.Net.{Net, net}
+use Rattle.rules.specs.Net.{Net, net_at, kind}
 use Rattle.rules.specs.Load.{entries, offsets_on}
-use Rattle.load.specs.Asks.{Stacked, AsksNode}
+use Rattle.load.specs.Asks.{AsksEntry, AsksNode, offsets_at}
 use Rattle.load.proofs.Bound.{load_most}
 use Rattle.load.proofs.Scan.{load_sink}
 use Rattle.load.proofs.Wire.{wire_within, offset_most, drives_lowest, drives_next, before_lower}
 use Rattle.load.proofs.drives.Goals as goal
+
+-- the lowest entry of a wire above a branch point asks what lies below that point
+node_asked : {n : Net} {vs os own shut gap reach : List ℕ} {k : ℕ} → AsksEntry n vs os own shut gap reach k → (kind n (get_or vs k 0) ≡ 1 → ⊥)
+    → AsksNode n (offsets_on (entries vs os)) n.parents own shut gap reach (get_or vs k 0)
+node_asked {n} {vs} {os} {own} {shut} {gap} {reach} {k} a b =
+    record { asks = record { column = refl; tables = a.weighable.tables; within = wire_within a.weighable.placed k a.within }; branch = b }
 
 pub overflow_cast-i : goal.overflow_cast-i
 overflow_cast-i c = omega (arith, wire_within c.requires.weighable.placed c.args.k c.requires.within, c.requires.weighable.placed.sound.few)
@@ -20,19 +25,19 @@ pub overflow_cast-offset : goal.overflow_cast-offset
 overflow_cast-offset c = omega (arith, offset_most c.requires.weighable.placed c.args.k c.requires.within)
 
 pub overflow_sub-before : goal.overflow_sub-before
-overflow_sub-before c = omega (arith, ((let upper' : Stacked c.args.wires.now c.args.k true = subst (Stacked _ _) c.if-stacked.true c.stacked.ensures in upper')).0)
+overflow_sub-before c = omega (arith, (rw c.if-stacked.true at c.stacked.ensures).0)
 
 pub overflow_cast-before : goal.overflow_cast-before
-overflow_cast-before c = omega (arith, before_lower c.requires.weighable.placed c.args.k c.requires.within ((let upper' : Stacked c.args.wires.now c.args.k true = subst (Stacked _ _) c.if-stacked.true c.stacked.ensures in upper')), offset_most c.requires.weighable.placed c.args.k c.requires.within)
+overflow_cast-before c = omega (arith, before_lower c.requires.weighable.placed c.args.k c.requires.within (rw c.if-stacked.true at c.stacked.ensures), offset_most c.requires.weighable.placed c.args.k c.requires.within)
 
 pub overflow_sub-result : goal.overflow_sub-result
-overflow_sub-result c = before_lower c.requires.weighable.placed c.args.k c.requires.within ((let upper' : Stacked c.args.wires.now c.args.k true = subst (Stacked _ _) c.if-stacked.true c.stacked.ensures in upper'))
+overflow_sub-result c = before_lower c.requires.weighable.placed c.args.k c.requires.within (rw c.if-stacked.true at c.stacked.ensures)
 
 pub overflow_add-result : goal.overflow_add-result
 overflow_add-result c = omega (arith, offset_most c.requires.weighable.placed c.args.k c.requires.within, c.requires.weighable.placed.sound.half, c.requires.weighable.placed.sound.limit_most)
 
 pub returns-then-stacked : goal.returns-then-stacked
-returns-then-stacked c = sym (drives_next c.requires.weighable.placed c.args.k c.requires.within ((let upper' : Stacked c.args.wires.now c.args.k true = subst (Stacked _ _) c.if-stacked.true c.stacked.ensures in upper')))
+returns-then-stacked c = sym (drives_next c.requires.weighable.placed c.args.k c.requires.within (rw c.if-stacked.true at c.stacked.ensures))
 
 pub bounds-kind-i : goal.bounds-kind-i
 bounds-kind-i c = omega (arith, wire_within c.requires.weighable.placed c.args.k c.requires.within, c.requires.weighable.placed.sound.kinds_long)
@@ -50,38 +55,24 @@ pub overflow_add-result-then-kind-i-eq1 : goal.overflow_add-result-then-kind-i-e
 overflow_add-result-then-kind-i-eq1 c = omega (arith, offset_most c.requires.weighable.placed c.args.k c.requires.within, c.requires.weighable.placed.sound.pin_most (get_or c.args.wires.now c.args.k 0))
 
 pub returns-then-kind-i-eq1 : goal.returns-then-kind-i-eq1
-returns-then-kind-i-eq1 c = omega (arith, drives_lowest c.requires.weighable.placed c.args.k c.requires.within ((let lowest' : Stacked c.args.wires.now c.args.k false = subst (Stacked _ _) c.if-stacked.false c.stacked.ensures in lowest')), load_sink ((let whole' : Net = net c.args.limits c.args.parent.now c.args.wire.now c.args.kind.now c.args.pin.now c.args.polarity.now in whole')) ((let offs' : ℕ → List ℕ = offsets_on (entries c.args.wires.now c.args.offsets.now) in offs')) (get_or c.args.wires.now c.args.k 0) c.if-kind-i-eq1.true)
+returns-then-kind-i-eq1 c = omega (arith, drives_lowest c.requires.weighable.placed c.args.k c.requires.within (rw c.if-stacked.false at c.stacked.ensures), load_sink (net_at c.args.limits c.args.parent c.args.wire c.args.kind c.args.pin c.args.polarity) (offsets_at c.args.wires c.args.offsets) (get_or c.args.wires.now c.args.k 0) c.if-kind-i-eq1.true)
 
 pub load_below-requires : goal.load_below-requires
-load_below-requires c =
-    record {
-      net = _;
-      offs = _;
-      asks = (let asked' : AsksNode ((let whole' : Net = net c.args.limits c.args.parent.now c.args.wire.now c.args.kind.now c.args.pin.now c.args.polarity.now in whole')) ((let offs' : ℕ → List ℕ = offsets_on (entries c.args.wires.now c.args.offsets.now) in offs')) c.args.parent.now c.args.own.now c.args.shut.now c.args.gap.now c.args.reach.now (get_or c.args.wires.now c.args.k 0) = record {
-        asks = record { column = refl; tables = c.requires.weighable.tables; within = wire_within c.requires.weighable.placed c.args.k c.requires.within };
-        branch = c.if-kind-i-eq1.false;
-      } in asked');
-    }
+load_below-requires c = record { net = _; offs = _; asks = node_asked c.requires c.if-kind-i-eq1.false }
 
 pub overflow_add-result-2 : goal.overflow_add-result-2
 overflow_add-result-2 c =
     omega (
       arith,
       offset_most c.requires.weighable.placed c.args.k c.requires.within,
-      c.load_below.ensures _ _ ((let asked' : AsksNode ((let whole' : Net = net c.args.limits c.args.parent.now c.args.wire.now c.args.kind.now c.args.pin.now c.args.polarity.now in whole')) ((let offs' : ℕ → List ℕ = offsets_on (entries c.args.wires.now c.args.offsets.now) in offs')) c.args.parent.now c.args.own.now c.args.shut.now c.args.gap.now c.args.reach.now (get_or c.args.wires.now c.args.k 0) = record {
-        asks = record { column = refl; tables = c.requires.weighable.tables; within = wire_within c.requires.weighable.placed c.args.k c.requires.within };
-        branch = c.if-kind-i-eq1.false;
-      } in asked')),
-      load_most c.requires.weighable.placed.sound ((let offs' : ℕ → List ℕ = offsets_on (entries c.args.wires.now c.args.offsets.now) in offs')) _ (wire_within c.requires.weighable.placed c.args.k c.requires.within),
+      c.load_below.ensures _ _ (node_asked c.requires c.if-kind-i-eq1.false),
+      load_most c.requires.weighable.placed.sound (offsets_at c.args.wires c.args.offsets) _ (wire_within c.requires.weighable.placed c.args.k c.requires.within),
     )
 
 pub returns : goal.returns
 returns c =
     omega (
       arith,
-      c.load_below.ensures _ _ ((let asked' : AsksNode ((let whole' : Net = net c.args.limits c.args.parent.now c.args.wire.now c.args.kind.now c.args.pin.now c.args.polarity.now in whole')) ((let offs' : ℕ → List ℕ = offsets_on (entries c.args.wires.now c.args.offsets.now) in offs')) c.args.parent.now c.args.own.now c.args.shut.now c.args.gap.now c.args.reach.now (get_or c.args.wires.now c.args.k 0) = record {
-        asks = record { column = refl; tables = c.requires.weighable.tables; within = wire_within c.requires.weighable.placed c.args.k c.requires.within };
-        branch = c.if-kind-i-eq1.false;
-      } in asked')),
-      drives_lowest c.requires.weighable.placed c.args.k c.requires.within ((let lowest' : Stacked c.args.wires.now c.args.k false = subst (Stacked _ _) c.if-stacked.false c.stacked.ensures in lowest')),
+      c.load_below.ensures _ _ (node_asked c.requires c.if-kind-i-eq1.false),
+      drives_lowest c.requires.weighable.placed c.args.k c.requires.within (rw c.if-stacked.false at c.stacked.ensures),
     )

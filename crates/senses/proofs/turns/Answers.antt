@@ -1,7 +1,6 @@
-use Prim.Native.Nat.{◌<◌}
 use mathlib.Core.Path.{◌≡◌, refl}
 use native.Mathlib.Omega.{arith}
-use lib.ListN.{length, get_or}
+use lib.ListN.{length}
 use Rattle.senses.proofs.Inverters.{turned_none, counted_none, above_most, own_most, counted_more, turned_more}
 use Rattle.senses.proofs.turns.Goals as goal
 
@@ -15,10 +14,10 @@ pub offset_bounds-parent-i : goal.offset_bounds-parent-i
 offset_bounds-parent-i c = omega (arith, c.requires.sound_net.0.few)
 
 pub overflow_cast-above : goal.overflow_cast-above
-overflow_cast-above c = omega (arith, (let lower' : get_or c.args.parent.now c.loop-i.i 0 < c.loop-i.i = c.requires.sound_net.0.lower c.loop-i.i (omega arith) (omega arith) in lower'))
+overflow_cast-above c = omega (arith, c.requires.sound_net.0.lower c.loop-i.i (omega arith) (omega arith))
 
 pub bounds-odd-above : goal.bounds-odd-above
-bounds-odd-above c = omega (arith, (let lower' : get_or c.args.parent.now c.loop-i.i 0 < c.loop-i.i = c.requires.sound_net.0.lower c.loop-i.i (omega arith) (omega arith) in lower'), c.requires.sound_net.0.few)
+bounds-odd-above c = omega (arith, c.requires.sound_net.0.lower c.loop-i.i (omega arith) (omega arith), c.requires.sound_net.0.few)
 
 pub bounds-odd-i : goal.bounds-odd-i
 bounds-odd-i c = omega (arith, c.requires.sound_net.0.few)
