@@ -16,7 +16,7 @@ use Rattle.frontier.specs.Placed.{on_wires, placed}
 use Rattle.relief.specs.Pieces.{topmost, lead_of}
 use Rattle.relief.specs.Marks.{Marks, added_at, Marked, Stuck}
 use Rattle.relief.proofs.Runs.{in_order_sorted}
-use Rattle.relief.proofs.Least.{completed, least-added, none_completes}
+use Rattle.relief.proofs.Least.{completed, least_added, none_completes}
 use Rattle.states.specs.declared.Cell as code
 use Rattle.states.specs.States.{model_of, limits_of, CellOk}
 use Rattle.states.proofs.Leaves.{model_is}
@@ -53,11 +53,11 @@ module _ {c : code.Cell} {p w k pi po ws os leads : List ℕ} (ok : CellOk c) (s
   pub lost_none : Lost (model_of c) (net (limits_of c) p w k pi po) (leads_in leads) → NoneCompletes (net (limits_of c) p w k pi po) (entries ws os)
   lost_none l =
       none_completes sound buffers g stood.order l.marks l.v l.low
-      (λ-both (λ τ L. Marked τ n L l.marks (suc l.v)) l.marked)
-      (λ-both (λ τ L. Stuck τ n L l.marks l.v) l.stuck)
+      (λ_both (λ τ L. Marked τ n L l.marks (suc l.v)) l.marked)
+      (λ_both (λ τ L. Stuck τ n L l.marks l.v) l.stuck)
     where
-      λ-both : (P : Cell → (ℕ → ℕ) → Type 0) → P (model_of c) (leads_in leads) → P (cell_of (limits_of c)) (λ i. lead_of (G i))
-      λ-both P x = subst (λ (τ : Cell). P τ (λ i. lead_of (G i))) (model_is ok) (subst (P (model_of c)) same_leads x)
+      λ_both : (P : Cell → (ℕ → ℕ) → Type 0) → P (model_of c) (leads_in leads) → P (cell_of (limits_of c)) (λ i. lead_of (G i))
+      λ_both P x = subst (λ (τ : Cell). P τ (λ i. lead_of (G i))) (model_is ok) (subst (P (model_of c)) same_leads x)
 
   -- the marks of the way up, read by the walks that count and write
   module _ (t : Tables) (going : Going (model_of c) (net (limits_of c) p w k pi po) (leads_in leads) t 1 0) where
@@ -80,11 +80,11 @@ module _ {c : code.Cell} {p w k pi po ws os leads : List ℕ} (ok : CellOk c) (s
     marked : Marked (cell_of (limits_of c)) n (λ i. lead_of (G i)) m 0
     marked = subst (λ (τ : Cell). Marked τ n (λ i. lead_of (G i)) m 0) (model_is ok) (subst (λ (L : ℕ → ℕ). Marked (model_of c) n L m 0) same_leads going.marked)
 
-    all-is : placed n (added_at (cell_of (limits_of c)) n G m) ≡ all_added (model_of c) w t.below t.on (entries ws os)
-    all-is = ap (λ (τ : Cell). on_wires (added_at τ n G m) (places n - 1) 1) (sym (model_is ok)) ∙ ap (λ (N : ℕ). on_wires (added_at (model_of c) n G m) (N - 1) 1) (sym sound.wires_long)
+    all_is : placed n (added_at (cell_of (limits_of c)) n G m) ≡ all_added (model_of c) w t.below t.on (entries ws os)
+    all_is = ap (λ (τ : Cell). on_wires (added_at τ n G m) (places n - 1) 1) (sym (model_is ok)) ∙ ap (λ (N : ℕ). on_wires (added_at (model_of c) n G m) (N - 1) 1) (sym sound.wires_long)
 
     pub completes : Completes (net (limits_of c) p w k pi po) (entries ws os) (all_added (model_of c) w t.below t.on (entries ws os))
-    completes = subst (Completes n g) all-is (completed sound buffers g stood.order m marked)
+    completes = subst (Completes n g) all_is (completed sound buffers g stood.order m marked)
 
     pub least : LeastAdded (net (limits_of c) p w k pi po) (entries ws os) (length (all_added (model_of c) w t.below t.on (entries ws os)))
-    least = subst (λ (l : List Entry). LeastAdded n g (length l)) all-is (least-added sound buffers g stood.order m marked)
+    least = subst (λ (l : List Entry). LeastAdded n g (length l)) all_is (least_added sound buffers g stood.order m marked)

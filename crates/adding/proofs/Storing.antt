@@ -18,7 +18,7 @@ use Rattle.relief.proofs.Runs.{here}
 use Rattle.adding.specs.declared.Wire.{Wire}
 use Rattle.adding.specs.declared.Walked.{Walked}
 use Rattle.adding.specs.Walks.{Begins, Passed, Stores, Wrote, WroteAll, Room}
-use Rattle.adding.proofs.Walking.{entry_at, Walking, walking_start, walking-more, passed-all, passed-other}
+use Rattle.adding.proofs.Walking.{entry_at, Walking, walking_start, walking_more, passed_all, passed_other}
 
 -- ---- none, and one run after the other
 pub stores_none : (i to : ℕ) (wires offs : List ℕ) → Stores [] i to wires offs wires offs
@@ -66,11 +66,11 @@ module _ (τ : Cell) (eq : τ.cu ≡ τ.cb + τ.D) (pos : 1 ≤ τ.D) (w k at lo
   above_long = length-append piece (replicate k w) ∙ omega (arith, spread_length τ eq pos w at load (ceil τ ((w - at) + load)), length-replicate {A = ℕ} k w)
 
   module _ {to : ℕ} {a b : List ℕ} (r : Room (added_from τ w k at load []) to a b) where
-    pub room-piece : Room (spread τ w at load (ceil τ ((w - at) + load))) to a b
-    room-piece = let n = spread_length τ eq pos w at load (ceil τ ((w - at) + load)) in record { in_wires = omega (arith, r.in_wires, above_long); in_offs = omega (arith, r.in_offs, above_long) }
+    pub room_piece : Room (spread τ w at load (ceil τ ((w - at) + load))) to a b
+    room_piece = let n = spread_length τ eq pos w at load (ceil τ ((w - at) + load)) in record { in_wires = omega (arith, r.in_wires, above_long); in_offs = omega (arith, r.in_offs, above_long) }
 
-    pub room-top : {i : ℕ} {a' b' : List ℕ} (next : ℕ) → next ≡ to + ceil τ ((w - at) + load) → Stores (spread τ w at load (ceil τ ((w - at) + load))) i to a b a' b' → (next + k ≤ length a') × (next + k ≤ length b')
-    room-top next en s = let (l, m) = stores_long s in (omega (arith, r.in_wires, above_long), omega (arith, r.in_offs, above_long))
+    pub room_top : {i : ℕ} {a' b' : List ℕ} (next : ℕ) → next ≡ to + ceil τ ((w - at) + load) → Stores (spread τ w at load (ceil τ ((w - at) + load))) i to a b a' b' → (next + k ≤ length a') × (next + k ≤ length b')
+    room_top next en s = let (l, m) = stores_long s in (omega (arith, r.in_wires, above_long), omega (arith, r.in_offs, above_long))
 
   pub above_stored : {i to : ℕ} {a b a' b' a'' b'' : List ℕ} (next : ℕ) → next ≡ to + ceil τ ((w - at) + load) → Stores (spread τ w at load (ceil τ ((w - at) + load))) i to a b a' b' → Stores (replicate k w) i next a' b' a'' b''
       → (next + k ≡ to + length (added_from τ w k at load [])) × Stores (added_from τ w k at load []) i to a b a'' b''
@@ -100,22 +100,22 @@ module _ {τ : Cell} {ws os : List ℕ} {first : ℕ} {x : Wire} {to : ℕ} {wir
         record { in_wires = omega (arith, r.in_wires, g.walking.place); in_offs = omega (arith, r.in_offs, g.walking.place) }
 
     module _ (h : e < length ws) (on : get_or ws e 0 ≡ x.number) where
-      pub room-between : (o : ℕ) → o ≡ get_or os e 0 → Room (whole τ ws os first x) to wires₀ offs₀ → Room (spread τ o at load (ceil τ ((o - at) + load))) k wires offs
+      pub room_between : (o : ℕ) → o ≡ get_or os e 0 → Room (whole τ ws os first x) to wires₀ offs₀ → Room (spread τ o at load (ceil τ ((o - at) + load))) k wires offs
       unfolding added_from
-      room-between o eo r =
+      room_between o eo r =
           let z = entry_at ws os e b.same h in
           room_next (spread τ o at load (ceil τ ((o - at) + load))) (added_from τ x.size x.top o τ.cb (offsets_on (from ws os (suc e)) x.number)) r
           (g.walking.through.left x.size x.top ∙ ap (λ (gs : List ℕ). done ++ added_from τ x.size x.top at load gs) (ap (λ es. offsets_on es x.number) z ∙ here x.number _ (from ws os (suc e)) on ∙ ap (λ (o : ℕ). o ∷ offsets_on (from ws os (suc e)) x.number) (sym eo)))
 
       pub writing_more : (o r : ℕ) → o ≡ get_or os e 0 → {wires' offs' : List ℕ} → r ≡ k + ceil τ ((o - at) + load) → Stores (spread τ o at load (ceil τ ((o - at) + load))) x.number k wires offs wires' offs'
           → Writing τ ws os first x to wires₀ offs₀ (e + 1) r o τ.cb wires' offs' (done ++ spread τ o at load (ceil τ ((o - at) + load)))
-      writing_more o r eo {wires'} {offs'} er s = rw er (record { walking = walking-more eq pos small b g.walking h on o (ceil τ ((o - at) + load)) eo refl; stores = stores_both g.walking.place g.stores s })
+      writing_more o r eo {wires'} {offs'} er s = rw er (record { walking = walking_more eq pos small b g.walking h on o (ceil τ ((o - at) + load)) eo refl; stores = stores_both g.walking.place g.stores s })
 
-    pub wrote-all : length ws ≤ e → Wrote τ ws os first x to (record { next = e; to = k; at = at; load = load }) wires₀ offs₀ wires offs
-    wrote-all h = (done, passed-all eq pos small b g.walking h, g.stores)
+    pub wrote_all : length ws ≤ e → Wrote τ ws os first x to (record { next = e; to = k; at = at; load = load }) wires₀ offs₀ wires offs
+    wrote_all h = (done, passed_all eq pos small b g.walking h, g.stores)
 
-    pub wrote-other : e < length ws → (get_or ws e 0 ≡ x.number → ⊥) → Wrote τ ws os first x to (record { next = e; to = k; at = at; load = load }) wires₀ offs₀ wires offs
-    wrote-other h ne = (done, passed-other eq pos small b g.walking h ne, g.stores)
+    pub wrote_other : e < length ws → (get_or ws e 0 ≡ x.number → ⊥) → Wrote τ ws os first x to (record { next = e; to = k; at = at; load = load }) wires₀ offs₀ wires offs
+    wrote_other h ne = (done, passed_other eq pos small b g.walking h ne, g.stores)
 
 -- ---- and what is above the last of them
 module _ {τ : Cell} {ws os : List ℕ} {e : ℕ} {x : Wire} {to : ℕ} {p : Walked} {done : List ℕ} (eq : τ.cu ≡ τ.cb + τ.D) (pos : 1 ≤ τ.D) (g : Passed τ ws os e x to p done) where

@@ -49,8 +49,8 @@ module _ {τ : Cell} {sizes below on ws os : List ℕ} (ready : Ready τ sizes b
   lined_start = record { within = omega arith; sorted = ready.sorted; left = λ j h. refl }
 
   module _ {i e : ℕ} {x : Wire} (l : Lined ws os i e) (lo : 1 ≤ i) (hi : i < length sizes) (is : IsWire sizes below on i x) where
-    same-offsets : offsets_on (from ws os e) x.number ≡ offsets_on (entries ws os) i
-    same-offsets = ap (offsets_on (from ws os e)) is.number ∙ l.left i (omega arith)
+    same_offsets : offsets_on (from ws os e) x.number ≡ offsets_on (entries ws os) i
+    same_offsets = ap (offsets_on (from ws os e)) is.number ∙ l.left i (omega arith)
 
     pub begins : Begins τ ws os e x
     begins = record {
@@ -60,11 +60,11 @@ module _ {τ : Cell} {sizes below on ws os : List ℕ} (ready : Ready τ sizes b
       size = omega (arith, is.size, ready.size i);
       fits = omega (arith, is.below, ready.fits i lo hi);
       sorted = subst (λ (j : ℕ). Sorted j (from ws os e)) (sym is.number) l.sorted;
-      rises = rw (same-offsets, is.size) (ready.rises i);
+      rises = rw (same_offsets, is.size) (ready.rises i);
     }
 
     pub whole_same : whole τ ws os e x ≡ added_on τ sizes below on (entries ws os) i
-    whole_same = λ ι. added_from τ (is.size ι) (is.top ι) 0 (is.below ι) (same-offsets ι)
+    whole_same = λ ι. added_from τ (is.size ι) (is.top ι) 0 (is.below ι) (same_offsets ι)
 
   -- ---- how many
   pub record Counting (i e to : ℕ) : Type 0 where
@@ -78,14 +78,14 @@ module _ {τ : Cell} {sizes below on ws os : List ℕ} (ready : Ready τ sizes b
 
   module _ (eq : τ.cu ≡ τ.cb + τ.D) (pos : 1 ≤ τ.D) (small : τ.cu ≤ most_limit) {i e to : ℕ} {x : Wire} {p : Walked} {done : List ℕ} (c : Counting i e to) (hi : i < length sizes) (is : IsWire sizes below on i x) (g : Passed τ ws os e x to p done) where
     -- the uppermost piece
-    pub last-low : p.at ≤ x.size
-    last-low = low eq pos g.through
+    pub last_low : p.at ≤ x.size
+    last_low = low eq pos g.through
 
-    pub last-few : (x.size - p.at) + p.load ≤ most_piece
-    last-few = omega (arith, is.size, ready.size i, g.through.fits)
+    pub last_few : (x.size - p.at) + p.load ≤ most_piece
+    last_few = omega (arith, is.size, ready.size i, g.through.fits)
 
-    pub place-few : p.to ≤ i * 50000000000 + 45056000000
-    place-few = omega (arith, g.few, c.few, g.within, ready.few)
+    pub place_few : p.to ≤ i * 50000000000 + 45056000000
+    place_few = omega (arith, g.few, c.few, g.within, ready.few)
 
     step : length (on_wires A (length sizes - i) i) ≡ length (A i) + length (on_wires A (length sizes - (i + 1)) (i + 1))
     unfolding on_wires
@@ -94,14 +94,14 @@ module _ {τ : Cell} {sizes below on ws os : List ℕ} (ready : Ready τ sizes b
         let z : suc i ≡ i + 1 = omega arith in
         rw q (length-append (on_wire i (A i)) (on_wires A (length sizes - (i + 1)) (suc i)) ∙ ap (λ (k : ℕ). k + length (on_wires A (length sizes - (i + 1)) (suc i))) (on_length i (A i)) ∙ ap (λ (j : ℕ). length (A i) + length (on_wires A (length sizes - (i + 1)) j)) z)
 
-    pub counting-next : (r : ℕ) → r ≡ ceil τ ((x.size - p.at) + p.load) → Counting (i + 1) p.next ((p.to + r) + x.top)
-    counting-next r er =
+    pub counting_next : (r : ℕ) → r ≡ ceil τ ((x.size - p.at) + p.load) → Counting (i + 1) p.next ((p.to + r) + x.top)
+    counting_next r er =
         let n : length (A i) ≡ (length done + r) + x.top = ap length (sym (whole_same c.lined c.lo hi is)) ∙ whole_long eq pos g ∙ ap (λ (k : ℕ). (length done + k) + x.top) (sym er) in
         record {
           lo = omega arith;
           lined = lined_next c.lined p.next g.within (g.next ∙ ap (λ (j : ℕ). past j (from ws os e)) is.number);
           left = omega (arith, c.left, step, g.to);
-          few = omega (arith, place-few, is.few, ceil_few τ eq pos ((x.size - p.at) + p.load) last-few);
+          few = omega (arith, place_few, is.few, ceil_few τ eq pos ((x.size - p.at) + p.load) last_few);
         }
 
   pub counting_end : {i e to : ℕ} → Counting i e to → length sizes ≤ i → to ≡ length (all_added τ sizes below on (entries ws os))
@@ -132,20 +132,20 @@ module _ {τ : Cell} {sizes below on ws os : List ℕ} (ready : Ready τ sizes b
         }
 
   module _ {wires₀ offs₀ : List ℕ} {i e to : ℕ} {wires offs : List ℕ} (g : Written wires₀ offs₀ i e to wires offs) where
-    all-long : length (all_added τ sizes below on (entries ws os)) ≡ to + length (on_wires A (length sizes - i) i)
-    all-long = ap length g.listing.all ∙ length-append g.listing.done (on_wires A (length sizes - i) i) ∙ ap (λ (k : ℕ). k + length (on_wires A (length sizes - i) i)) g.listing.long
+    all_long : length (all_added τ sizes below on (entries ws os)) ≡ to + length (on_wires A (length sizes - i) i)
+    all_long = ap length g.listing.all ∙ length-append g.listing.done (on_wires A (length sizes - i) i) ∙ ap (λ (k : ℕ). k + length (on_wires A (length sizes - i) i)) g.listing.long
 
     -- while some are left so is a wire
-    pub wire-left : to < length (all_added τ sizes below on (entries ws os)) → i < length sizes
+    pub wire_left : to < length (all_added τ sizes below on (entries ws os)) → i < length sizes
     unfolding on_wires
-    wire-left h = go (length sizes - i) refl
+    wire_left h = go (length sizes - i) refl
       where
         go : (k : ℕ) → length sizes - i ≡ k → i < length sizes
-        go zero z = let l = all-long in absurd (omega (arith, rw z at l))
+        go zero z = let l = all_long in absurd (omega (arith, rw z at l))
         go (suc k) z = omega arith
 
-    pub written-end : length (all_added τ sizes below on (entries ws os)) ≤ to → Holds (all_added τ sizes below on (entries ws os)) wires₀ offs₀ wires offs
-    written-end h =
-        let z : on_wires A (length sizes - i) i ≡ [] = none_long (on_wires A (length sizes - i) i) (omega (arith, all-long)) in
+    pub written_end : length (all_added τ sizes below on (entries ws os)) ≤ to → Holds (all_added τ sizes below on (entries ws os)) wires₀ offs₀ wires offs
+    written_end h =
+        let z : on_wires A (length sizes - i) i ≡ [] = none_long (on_wires A (length sizes - i) i) (omega (arith, all_long)) in
         let q : all_added τ sizes below on (entries ws os) ≡ g.listing.done = g.listing.all ∙ ap (λ (p : List Entry). g.listing.done ++ p) z ∙ append-nil g.listing.done in
         record { wires = g.listing.wires ∙ ap (λ (p : List Entry). sets wires₀ 0 (wire_column p)) (sym q); offsets = g.listing.offsets ∙ ap (λ (p : List Entry). sets offs₀ 0 (offset_column p)) (sym q) }

@@ -58,18 +58,18 @@ module _ {τ : Cell} (eq : τ.cu ≡ τ.cb + τ.D) (pos : 1 ≤ τ.D) {x : Wire}
     own : offsets_on (d ∷ es) x.number ≡ d.offset ∷ offsets_on es x.number
     own = here x.number d es on
 
-    rises-now : Rising x.size at (d.offset ∷ offsets_on es x.number)
-    rises-now = subst (Rising x.size at) own t.rises
+    rises_now : Rising x.size at (d.offset ∷ offsets_on es x.number)
+    rises_now = subst (Rising x.size at) own t.rises
 
     pub between : (at ≤ d.offset) × (d.offset ≤ x.size)
-    between = (rises-now.0, rising_low x.size d.offset (offsets_on es x.number) rises-now.1)
+    between = (rises_now.0, rising_low x.size d.offset (offsets_on es x.number) rises_now.1)
 
-    pub through-more : Through τ x all (done ++ spread τ d.offset at b (ceil τ ((d.offset - at) + b))) d.offset τ.cb es
+    pub through_more : Through τ x all (done ++ spread τ d.offset at b (ceil τ ((d.offset - at) + b))) d.offset τ.cb es
     unfolding added_from
-    through-more = record {
+    through_more = record {
       left = λ w k. t.left w k ∙ ap (λ (gs : List ℕ). done ++ added_from τ w k at b gs) own ∙ step w k;
       rest = sym (past_here x.number d es on) ∙ t.rest;
-      rises = rises-now.1;
+      rises = rises_now.1;
       sorted = sorted_on es (omega (arith, t.sorted.0)) t.sorted.1;
       fits = omega arith;
     }
@@ -94,31 +94,31 @@ module _ {τ : Cell} {ws os : List ℕ} {first : ℕ} {x : Wire} {to : ℕ} (eq 
       at_head : Through τ x (from ws os first) done at load (record { wire = get_or ws e 0; offset = get_or os e 0 } ∷ from ws os (suc e))
       at_head = subst (Through τ x (from ws os first) done at load) (entry_at ws os e b.same h) g.through
 
-      pub next-piece : (at ≤ get_or os e 0) × (get_or os e 0 ≤ x.size)
-      next-piece = between eq pos at_head on
+      pub next_piece : (at ≤ get_or os e 0) × (get_or os e 0 ≤ x.size)
+      next_piece = between eq pos at_head on
 
       -- with the pieces that the next entry shuts
-      pub walking-more : (o r : ℕ) → o ≡ get_or os e 0 → r ≡ ceil τ ((o - at) + load) → Walking τ ws os first x to (e + 1) (k + r) o τ.cb (done ++ spread τ o at load (ceil τ ((o - at) + load)))
-      walking-more o r eo er =
+      pub walking_more : (o r : ℕ) → o ≡ get_or os e 0 → r ≡ ceil τ ((o - at) + load) → Walking τ ws os first x to (e + 1) (k + r) o τ.cb (done ++ spread τ o at load (ceil τ ((o - at) + load)))
+      walking_more o r eo er =
           let q : e + 1 ≡ suc e = omega arith in
           let n : length (spread τ o at load (ceil τ ((o - at) + load))) ≡ r = spread_length τ eq pos o at load (ceil τ ((o - at) + load)) ∙ sym er in
           record {
-            through = rw q (subst (λ (o : ℕ). Through τ x (from ws os first) (done ++ spread τ o at load (ceil τ ((o - at) + load))) o τ.cb (from ws os (suc e))) (sym eo) (through-more eq pos at_head on));
+            through = rw q (subst (λ (o : ℕ). Through τ x (from ws os first) (done ++ spread τ o at load (ceil τ ((o - at) + load))) o τ.cb (from ws os (suc e))) (sym eo) (through_more eq pos at_head on));
             place = omega (arith, g.place, length-append done (spread τ o at load (ceil τ ((o - at) + load))));
             within = omega arith;
-            few = omega (arith, g.few, ceil_few τ eq pos ((o - at) + load) (omega (arith, b.size, g.through.fits, next-piece.1)));
+            few = omega (arith, g.few, ceil_few τ eq pos ((o - at) + load) (omega (arith, b.size, g.through.fits, next_piece.1)));
           }
 
     -- past the last of the wire
     passed : offsets_on (from ws os e) x.number ≡ [] → past x.number (from ws os e) ≡ from ws os e → Passed τ ws os first x to (record { next = e; to = k; at = at; load = load }) done
     passed c p = record { through = g.through; clear = c; next = sym p ∙ g.through.rest; to = g.place; within = g.within; few = g.few }
 
-    pub passed-all : length ws ≤ e → Passed τ ws os first x to (record { next = e; to = k; at = at; load = load }) done
+    pub passed_all : length ws ≤ e → Passed τ ws os first x to (record { next = e; to = k; at = at; load = load }) done
     unfolding offsets_on
-    passed-all h = let z = entry_none ws os e h in passed (ap (λ (es : List Entry). offsets_on es x.number) z) (ap (past x.number) z ∙ past_none x.number ∙ sym z)
+    passed_all h = let z = entry_none ws os e h in passed (ap (λ (es : List Entry). offsets_on es x.number) z) (ap (past x.number) z ∙ past_none x.number ∙ sym z)
 
-    pub passed-other : e < length ws → (get_or ws e 0 ≡ x.number → ⊥) → Passed τ ws os first x to (record { next = e; to = k; at = at; load = load }) done
-    passed-other h ne =
+    pub passed_other : e < length ws → (get_or ws e 0 ≡ x.number → ⊥) → Passed τ ws os first x to (record { next = e; to = k; at = at; load = load }) done
+    passed_other h ne =
         let d : Entry = record { wire = get_or ws e 0; offset = get_or os e 0 } in
         let z = entry_at ws os e b.same h in
         let s : Sorted x.number (d ∷ from ws os (suc e)) = subst (Sorted x.number) z g.through.sorted in

@@ -46,23 +46,23 @@ module _ (τ : Cell) (eq : τ.cu ≡ τ.cb + τ.D) (pos : 1 ≤ τ.D) (small : �
     in_tops : i < length t.tops
     in_tops = omega (arith, g.long.enough)
 
-    below-p : get_or (set t.below (parent n i) (get_or t.below (parent n i) 0 + a)) (parent n i) 0 ≡ get_or t.below (parent n i) 0 + a
-    below-p = get_or-set_same t.below (parent n i) (get_or t.below (parent n i) 0 + a) 0 (omega (arith, lower, g.long.below, g.long.enough))
+    below_p : get_or (set t.below (parent n i) (get_or t.below (parent n i) 0 + a)) (parent n i) 0 ≡ get_or t.below (parent n i) 0 + a
+    below_p = get_or-set_same t.below (parent n i) (get_or t.below (parent n i) 0 + a) 0 (omega (arith, lower, g.long.below, g.long.enough))
 
-    below-v : (v : ℕ) → (v ≡ parent n i → ⊥) → get_or (set t.below (parent n i) (get_or t.below (parent n i) 0 + a)) v 0 ≡ get_or t.below v 0
-    below-v v ne = get_or-set_other t.below (parent n i) v (get_or t.below (parent n i) 0 + a) 0 ne
+    below_v : (v : ℕ) → (v ≡ parent n i → ⊥) → get_or (set t.below (parent n i) (get_or t.below (parent n i) 0 + a)) v 0 ≡ get_or t.below v 0
+    below_v v ne = get_or-set_other t.below (parent n i) v (get_or t.below (parent n i) 0 + a) 0 ne
 
-    tops-own : get_or (set t.tops i a) i 0 ≡ a
-    tops-own = get_or-set_same t.tops i a 0 in_tops
+    tops_own : get_or (set t.tops i a) i 0 ≡ a
+    tops_own = get_or-set_same t.tops i a 0 in_tops
 
-    tops-j : (j : ℕ) → (j ≡ i → ⊥) → get_or (set t.tops i a) j 0 ≡ get_or t.tops j 0
-    tops-j j ne = get_or-set_other t.tops i j a 0 ne
+    tops_j : (j : ℕ) → (j ≡ i → ⊥) → get_or (set t.tops i a) j 0 ≡ get_or t.tops j 0
+    tops_j j ne = get_or-set_other t.tops i j a 0 ne
 
     abbrev below'' : List ℕ
     below'' = set t.below (parent n i) (get_or t.below (parent n i) 0 + a)
 
-    hands-same : (j : ℕ) → i ≤ j → hands τ n L (marks_of below'' t.on) j ≡ hands τ n L (marks_of t.below t.on) j
-    hands-same j l = ap (bare τ (wire n j) (L j)) (below-v j (λ q. omega (arith, lower)))
+    hands_same : (j : ℕ) → i ≤ j → hands τ n L (marks_of below'' t.on) j ≡ hands τ n L (marks_of t.below t.on) j
+    hands_same j l = ap (bare τ (wire n j) (L j)) (below_v j (λ q. omega (arith, lower)))
 
     -- the wire's link leads on to where the parent's did, and the parent's to the wire
     abbrev first : List ℕ
@@ -71,57 +71,57 @@ module _ (τ : Cell) (eq : τ.cu ≡ τ.cb + τ.D) (pos : 1 ≤ τ.D) (small : �
     abbrev links'' : List ℕ
     links'' = set (set t.links i (get_or t.links (parent n i) 0)) (parent n i) i
 
-    links-own : get_or (set (set t.links i (get_or t.links (parent n i) 0)) (parent n i) i) i 0 ≡ get_or t.links (parent n i) 0
-    links-own = get_or-set_other first (parent n i) i i 0 (λ q. omega (arith, lower)) ∙ get_or-set_same t.links i (get_or t.links (parent n i) 0) 0 (omega (arith, g.long.links, in_tops))
+    links_own : get_or (set (set t.links i (get_or t.links (parent n i) 0)) (parent n i) i) i 0 ≡ get_or t.links (parent n i) 0
+    links_own = get_or-set_other first (parent n i) i i 0 (λ q. omega (arith, lower)) ∙ get_or-set_same t.links i (get_or t.links (parent n i) 0) 0 (omega (arith, g.long.links, in_tops))
 
-    links-p : get_or (set (set t.links i (get_or t.links (parent n i) 0)) (parent n i) i) (parent n i) 0 ≡ i
-    links-p = get_or-set_same first (parent n i) i 0 (omega (arith, lower, g.long.links, in_tops, length-set t.links i (get_or t.links (parent n i) 0)))
+    links_p : get_or (set (set t.links i (get_or t.links (parent n i) 0)) (parent n i) i) (parent n i) 0 ≡ i
+    links_p = get_or-set_same first (parent n i) i 0 (omega (arith, lower, g.long.links, in_tops, length-set t.links i (get_or t.links (parent n i) 0)))
 
-    links-j : (j : ℕ) → (j ≡ i → ⊥) → (j ≡ parent n i → ⊥) → get_or (set (set t.links i (get_or t.links (parent n i) 0)) (parent n i) i) j 0 ≡ get_or t.links j 0
-    links-j j ne np = get_or-set_other first (parent n i) j i 0 np ∙ get_or-set_other t.links i j (get_or t.links (parent n i) 0) 0 ne
+    links_j : (j : ℕ) → (j ≡ i → ⊥) → (j ≡ parent n i → ⊥) → get_or (set (set t.links i (get_or t.links (parent n i) 0)) (parent n i) i) j 0 ≡ get_or t.links j 0
+    links_j j ne np = get_or-set_other first (parent n i) j i 0 np ∙ get_or-set_other t.links i j (get_or t.links (parent n i) 0) 0 ne
 
     -- the kids after i are not i
     not_own : (v j : ℕ) → Among j (kids n (suc i) v) → j ≡ i → ⊥
     not_own v j x q = let k = kids_are n (suc i) v hi j x in omega (arith, k.from)
 
-    old-chain : (v : ℕ) → v < i → Chain (length t.tops) links'' (get_or t.links v 0) (kids n (suc i) v)
-    old-chain v l = chain_frame (length t.tops) t.links links'' (get_or t.links v 0) (kids n (suc i) v) (λ j x. links-j j (not_own v j x) (λ q. let k = kids_are n (suc i) v hi j x in omega (arith, k.from, lower))) (g.chains v l)
+    old_chain : (v : ℕ) → v < i → Chain (length t.tops) links'' (get_or t.links v 0) (kids n (suc i) v)
+    old_chain v l = chain_frame (length t.tops) t.links links'' (get_or t.links v 0) (kids n (suc i) v) (λ j x. links_j j (not_own v j x) (λ q. let k = kids_are n (suc i) v hi j x in omega (arith, k.from, lower))) (g.chains v l)
 
-    new-chain : Chain (length t.tops) links'' i (i ∷ kids n (suc i) (parent n i))
-    new-chain =
+    new_chain : Chain (length t.tops) links'' i (i ∷ kids n (suc i) (parent n i))
+    new_chain =
         let past : i < get_or t.links (parent n i) 0 = chain_past (length t.tops) t.links (get_or t.links (parent n i) 0) (kids n (suc i) (parent n i)) i in_tops
         (each_of (λ j. i < j) (kids n (suc i) (parent n i)) (λ j x. let k = kids_are n (suc i) (parent n i) hi j x in omega (arith, k.from))) (g.chains (parent n i) lower) in
-        (refl, in_tops, omega (arith, links-own), subst (λ (x : ℕ). Chain (length t.tops) links'' x (kids n (suc i) (parent n i))) (sym links-own) (old-chain (parent n i) lower))
+        (refl, in_tops, omega (arith, links_own), subst (λ (x : ℕ). Chain (length t.tops) links'' x (kids n (suc i) (parent n i))) (sym links_own) (old_chain (parent n i) lower))
 
     chain_now : (v : ℕ) → v < i → Chain (length t.tops) links'' (get_or links'' v 0) (kids n i v)
     chain_now v l = elim (ℕ_discrete (parent n i) v) [
       | yes e ↦ subst (λ (v : ℕ). Chain (length t.tops) links'' (get_or links'' v 0) (kids n i v)) e
-          (subst (λ (k : ℕ). Chain (length t.tops) links'' k (kids n i (parent n i))) (sym links-p) (subst (Chain (length t.tops) links'' i) (sym (kids_take n i (parent n i) hi refl)) new-chain))
-      | no ne ↦ subst (λ (k : ℕ). Chain (length t.tops) links'' k (kids n i v)) (sym (links-j v (λ q. omega arith) (λ q. ne (sym q))))
-          (subst (Chain (length t.tops) links'' (get_or t.links v 0)) (sym (kids_skip n i v hi ne)) (old-chain v l))
+          (subst (λ (k : ℕ). Chain (length t.tops) links'' k (kids n i (parent n i))) (sym links_p) (subst (Chain (length t.tops) links'' i) (sym (kids_take n i (parent n i) hi refl)) new_chain))
+      | no ne ↦ subst (λ (k : ℕ). Chain (length t.tops) links'' k (kids n i v)) (sym (links_j v (λ q. omega arith) (λ q. ne (sym q))))
+          (subst (Chain (length t.tops) links'' (get_or t.links v 0)) (sym (kids_skip n i v hi ne)) (old_chain v l))
     ]
 
-    old-sum : (v : ℕ) → v < i → sum_l (λ j. get_or (set t.tops i a) j 0) (kids n (suc i) v) ≡ get_or t.below v 0
-    old-sum v l = sum_same (λ j. get_or (set t.tops i a) j 0) (λ j. get_or t.tops j 0) (kids n (suc i) v) (λ j x. tops-j j (not_own v j x)) ∙ g.sums v l
+    old_sum : (v : ℕ) → v < i → sum_l (λ j. get_or (set t.tops i a) j 0) (kids n (suc i) v) ≡ get_or t.below v 0
+    old_sum v l = sum_same (λ j. get_or (set t.tops i a) j 0) (λ j. get_or t.tops j 0) (kids n (suc i) v) (λ j x. tops_j j (not_own v j x)) ∙ g.sums v l
 
-    sum-now : (v : ℕ) → v < i → sum_l (λ j. get_or (set t.tops i a) j 0) (kids n i v) ≡ get_or below'' v 0
-    sum-now v l = elim (ℕ_discrete (parent n i) v) [
+    sum_now : (v : ℕ) → v < i → sum_l (λ j. get_or (set t.tops i a) j 0) (kids n i v) ≡ get_or below'' v 0
+    sum_now v l = elim (ℕ_discrete (parent n i) v) [
       | yes e ↦ subst (λ (v : ℕ). sum_l (λ j. get_or (set t.tops i a) j 0) (kids n i v) ≡ get_or below'' v 0) e
-          (ap (sum_l (λ j. get_or (set t.tops i a) j 0)) (kids_take n i (parent n i) hi refl) ∙ omega (arith, tops-own, old-sum (parent n i) lower, below-p))
-      | no ne ↦ ap (sum_l (λ j. get_or (set t.tops i a) j 0)) (kids_skip n i v hi ne) ∙ old-sum v l ∙ sym (below-v v (λ q. ne (sym q)))
+          (ap (sum_l (λ j. get_or (set t.tops i a) j 0)) (kids_take n i (parent n i) hi refl) ∙ omega (arith, tops_own, old_sum (parent n i) lower, below_p))
+      | no ne ↦ ap (sum_l (λ j. get_or (set t.tops i a) j 0)) (kids_skip n i v hi ne) ∙ old_sum v l ∙ sym (below_v v (λ q. ne (sym q)))
     ]
 
-    fresh-now : (v : ℕ) → v < i → Each (λ j. get_or t.on j 0 ≡ 0) (kids n i v)
-    fresh-now v l = elim (ℕ_discrete (parent n i) v) [
+    fresh_now : (v : ℕ) → v < i → Each (λ j. get_or t.on j 0 ≡ 0) (kids n i v)
+    fresh_now v l = elim (ℕ_discrete (parent n i) v) [
       | yes e ↦ subst (λ (v : ℕ). Each (λ j. get_or t.on j 0 ≡ 0) (kids n i v)) e (subst (Each (λ j. get_or t.on j 0 ≡ 0)) (sym (kids_take n i (parent n i) hi refl)) (g.clear i (omega arith), g.fresh (parent n i) lower))
       | no ne ↦ subst (Each (λ j. get_or t.on j 0 ≡ 0)) (sym (kids_skip n i v hi ne)) (g.fresh v l)
     ]
 
-    tops-now : (j : ℕ) → i ≤ j → j < places n → get_or (set t.tops i a) j 0 ≡ out τ n L (marks_of below'' t.on) j
-    tops-now j l m = elim (ℕ_discrete j i) [
+    tops_now : (j : ℕ) → i ≤ j → j < places n → get_or (set t.tops i a) j 0 ≡ out τ n L (marks_of below'' t.on) j
+    tops_now j l m = elim (ℕ_discrete j i) [
       | yes q ↦ subst (λ (j : ℕ). get_or (set t.tops i a) j 0 ≡ out τ n L (marks_of below'' t.on) j) (sym q)
-          (tops-own ∙ is ∙ sym (hands-same i (omega arith)) ∙ subst (λ (k : ℕ). hands τ n L (marks_of below'' t.on) i ≡ topped τ k (hands τ n L (marks_of below'' t.on) i)) (sym (g.clear i (omega arith))) refl)
-      | no ne ↦ tops-j j ne ∙ g.tops j (omega arith) m ∙ ap (topped τ (get_or t.on j 0)) (sym (hands-same j l))
+          (tops_own ∙ is ∙ sym (hands_same i (omega arith)) ∙ subst (λ (k : ℕ). hands τ n L (marks_of below'' t.on) i ≡ topped τ k (hands τ n L (marks_of below'' t.on) i)) (sym (g.clear i (omega arith))) refl)
+      | no ne ↦ tops_j j ne ∙ g.tops j (omega arith) m ∙ ap (topped τ (get_or t.on j 0)) (sym (hands_same j l))
     ]
 
     pub pushed : Going τ n L (tables below'' (set t.tops i a) t.on links'') i i
@@ -134,17 +134,17 @@ module _ (τ : Cell) (eq : τ.cu ≡ τ.cb + τ.D) (pos : 1 ≤ τ.D) (small : �
         links = omega (arith, g.long.links, length-set t.tops i a, length-set t.links i (get_or t.links (parent n i) 0), length-set first (parent n i) i);
       };
       chains = λ v l. subst (λ (N : ℕ). Chain N links'' (get_or links'' v 0) (kids n i v)) (sym (length-set t.tops i a)) (chain_now v l);
-      sums = sum-now;
+      sums = sum_now;
       clear = λ j l. g.clear j (omega arith);
-      fresh = fresh-now;
-      tops = tops-now;
+      fresh = fresh_now;
+      tops = tops_now;
       marked = record {
-        fits = λ v l m. subst (λ (y : ℕ). y ≤ τ.cu) (sym (below-v v (λ q. omega (arith, lower)))) (g.marked.fits v l m);
-        sinks = λ v l m k. below-v v (λ q. omega (arith, lower)) ∙ g.marked.sinks v l m k;
+        fits = λ v l m. subst (λ (y : ℕ). y ≤ τ.cu) (sym (below_v v (λ q. omega (arith, lower)))) (g.marked.fits v l m);
+        sinks = λ v l m k. below_v v (λ q. omega (arith, lower)) ∙ g.marked.sinks v l m k;
         nodes = λ v l m k.
-            subst (Relieved τ (hands τ n L (marks_of below'' t.on)) (λ j. get_or t.on j 0) (under n v)) (sym (below-v v (λ q. omega (arith, lower))))
+            subst (Relieved τ (hands τ n L (marks_of below'' t.on)) (λ j. get_or t.on j 0) (under n v)) (sym (below_v v (λ q. omega (arith, lower))))
             (relieved_same τ (hands τ n L (marks_of t.below t.on)) (λ j. get_or t.on j 0) (hands τ n L (marks_of below'' t.on)) (λ j. get_or t.on j 0) (under n v) (get_or t.below v 0)
-            (λ j x. (hands-same j (let k = kids_are n (suc v) v m j x in omega (arith, k.from)), refl)) (g.marked.nodes v l m k));
+            (λ j x. (hands_same j (let k = kids_are n (suc v) v m j x in omega (arith, k.from)), refl)) (g.marked.nodes v l m k));
       };
     }
 

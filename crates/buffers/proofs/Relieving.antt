@@ -78,46 +78,46 @@ module _ (τ : Cell) (eq : τ.cu ≡ τ.cb + τ.D) where
           go (bare k l t) = (t, omega arith)
           go (done k l t) = absurd (omega arith)
 
-      tops-j : get_or (set tops j τ.cb) j 0 ≡ τ.cb
-      tops-j = get_or-set_same tops j τ.cb 0 in_tops
+      tops_j : get_or (set tops j τ.cb) j 0 ≡ τ.cb
+      tops_j = get_or-set_same tops j τ.cb 0 in_tops
 
-      on-j : get_or (set on j 1) j 0 ≡ 1
-      on-j = get_or-set_same on j 1 0 in_on
+      on_j : get_or (set on j 1) j 0 ≡ 1
+      on_j = get_or-set_same on j 1 0 in_on
 
-      tops-i : (i : ℕ) → (i ≡ j → ⊥) → get_or (set tops j τ.cb) i 0 ≡ get_or tops i 0
-      tops-i i ne = get_or-set_other tops j i τ.cb 0 ne
+      tops_i : (i : ℕ) → (i ≡ j → ⊥) → get_or (set tops j τ.cb) i 0 ≡ get_or tops i 0
+      tops_i i ne = get_or-set_other tops j i τ.cb 0 ne
 
-      on-i : (i : ℕ) → (i ≡ j → ⊥) → get_or (set on j 1) i 0 ≡ get_or on i 0
-      on-i i ne = get_or-set_other on j i 1 0 ne
+      on_i : (i : ℕ) → (i ≡ j → ⊥) → get_or (set on j 1) i 0 ≡ get_or on i 0
+      on_i i ne = get_or-set_other on j i 1 0 ne
 
       divides : (i : ℕ) → Among i js → Divides τ y (get_or tops₀ i 0) (get_or (set on j 1) i 0)
       divides i a = elim (ℕ_discrete i j) [
-        | yes q ↦ subst (λ (i : ℕ). Divides τ y (get_or tops₀ i 0) (get_or (set on j 1) i 0)) (sym q) (as_heavy y (get_or tops₀ j 0) (get_or (set on j 1) j 0) on-j (omega (arith, own.0)))
+        | yes q ↦ subst (λ (i : ℕ). Divides τ y (get_or tops₀ i 0) (get_or (set on j 1) i 0)) (sym q) (as_heavy y (get_or tops₀ j 0) (get_or (set on j 1) j 0) on_j (omega (arith, own.0)))
         | no ne ↦ go ne (at i a)
       ]
         where
           go : (i ≡ j → ⊥) → At i → Divides τ y (get_or tops₀ i 0) (get_or (set on j 1) i 0)
-          go ne (bare k l t) = as_light y (get_or tops₀ i 0) (get_or (set on j 1) i 0) (on-i i ne ∙ k) (omega (arith, each_at (λ i. get_or tops i 0 ≤ get_or tops j 0) js most i a))
-          go ne (done k l t) = as_heavy y (get_or tops₀ i 0) (get_or (set on j 1) i 0) (on-i i ne ∙ k) (omega (arith, own.1))
+          go ne (bare k l t) = as_light y (get_or tops₀ i 0) (get_or (set on j 1) i 0) (on_i i ne ∙ k) (omega (arith, each_at (λ i. get_or tops i 0 ≤ get_or tops j 0) js most i a))
+          go ne (done k l t) = as_heavy y (get_or tops₀ i 0) (get_or (set on j 1) i 0) (on_i i ne ∙ k) (omega (arith, own.1))
 
-      tops-be : (i : ℕ) → Among i js → get_or (set tops j τ.cb) i 0 ≡ topped τ (get_or (set on j 1) i 0) (get_or tops₀ i 0)
-      tops-be i a = elim (ℕ_discrete i j) [
-        | yes q ↦ subst (λ (i : ℕ). get_or (set tops j τ.cb) i 0 ≡ topped τ (get_or (set on j 1) i 0) (get_or tops₀ i 0)) (sym q) (tops-j ∙ sym (top_one (get_or (set on j 1) j 0) (get_or tops₀ j 0) on-j))
-        | no ne ↦ tops-i i ne ∙ each_at (λ j. get_or tops j 0 ≡ topped τ (get_or on j 0) (get_or tops₀ j 0)) js e.tops_are i a ∙ ap (λ (k : ℕ). topped τ k (get_or tops₀ i 0)) (sym (on-i i ne))
+      tops_be : (i : ℕ) → Among i js → get_or (set tops j τ.cb) i 0 ≡ topped τ (get_or (set on j 1) i 0) (get_or tops₀ i 0)
+      tops_be i a = elim (ℕ_discrete i j) [
+        | yes q ↦ subst (λ (i : ℕ). get_or (set tops j τ.cb) i 0 ≡ topped τ (get_or (set on j 1) i 0) (get_or tops₀ i 0)) (sym q) (tops_j ∙ sym (top_one (get_or (set on j 1) j 0) (get_or tops₀ j 0) on_j))
+        | no ne ↦ tops_i i ne ∙ each_at (λ j. get_or tops j 0 ≡ topped τ (get_or on j 0) (get_or tops₀ j 0)) js e.tops_are i a ∙ ap (λ (k : ℕ). topped τ k (get_or tops₀ i 0)) (sym (on_i i ne))
       ]
 
-      pub easing-more : Easing τ tops₀ on₀ (set tops j τ.cb) (set on j 1) js (h - (get_or tops j 0 - τ.cb))
-      easing-more =
-          let s : sum_l (λ i. get_or (set tops j τ.cb) i 0) js + get_or tops j 0 ≡ sum_l (λ i. get_or tops i 0) js + get_or (set tops j τ.cb) j 0 = sum_set (λ i. get_or tops i 0) (λ i. get_or (set tops j τ.cb) i 0) js j rises among tops-i in
+      pub easing_more : Easing τ tops₀ on₀ (set tops j τ.cb) (set on j 1) js (h - (get_or tops j 0 - τ.cb))
+      easing_more =
+          let s : sum_l (λ i. get_or (set tops j τ.cb) i 0) js + get_or tops j 0 ≡ sum_l (λ i. get_or tops i 0) js + get_or (set tops j τ.cb) j 0 = sum_set (λ i. get_or tops i 0) (λ i. get_or (set tops j τ.cb) i 0) js j rises among tops_i in
           record {
             x = y;
             small = omega (arith, own.1, e.small);
             each = each_of (λ i. Divides τ y (get_or tops₀ i 0) (get_or (set on j 1) i 0)) js divides;
             tight = λ k. omega (arith, e.load, sum_least (λ i. get_or tops i 0) js j among);
-            load = omega (arith, s, tops-j, e.load, sum_least (λ i. get_or tops i 0) js j among);
-            tops_are = each_of (λ i. get_or (set tops j τ.cb) i 0 ≡ topped τ (get_or (set on j 1) i 0) (get_or tops₀ i 0)) js tops-be;
-            tops_kept = λ i a. tops-i i (λ q. a (subst (λ (x : ℕ). Among x js) (sym q) among)) ∙ e.tops_kept i a;
-            on_kept = λ i a. on-i i (λ q. a (subst (λ (x : ℕ). Among x js) (sym q) among)) ∙ e.on_kept i a;
+            load = omega (arith, s, tops_j, e.load, sum_least (λ i. get_or tops i 0) js j among);
+            tops_are = each_of (λ i. get_or (set tops j τ.cb) i 0 ≡ topped τ (get_or (set on j 1) i 0) (get_or tops₀ i 0)) js tops_be;
+            tops_kept = λ i a. tops_i i (λ q. a (subst (λ (x : ℕ). Among x js) (sym q) among)) ∙ e.tops_kept i a;
+            on_kept = λ i a. on_i i (λ q. a (subst (λ (x : ℕ). Among x js) (sym q) among)) ∙ e.on_kept i a;
             tops_long = length-set tops j τ.cb ∙ e.tops_long;
             on_long = length-set on j 1 ∙ e.on_long;
           }
@@ -168,7 +168,7 @@ module _ {τ : Cell} {links tops₀ on₀ : List ℕ} {first load : ℕ} {tops o
   pub progress_more : τ.cu ≡ τ.cb + τ.D → (j : ℕ) → Picked τ tops on js h j → τ.cu < h → Progress τ links tops₀ on₀ first load (set tops j τ.cb) (set on j 1) (h - (get_or tops j 0 - τ.cb))
   progress_more eq j k full = record {
     loaded = p.loaded;
-    easing = easing-more τ eq tops₀ on₀ tops on js h p.easing j (chain_rises (length tops) links first js chain_now) k.among k.over k.most k.in_tops k.in_on full;
+    easing = easing_more τ eq tops₀ on₀ tops on js h p.easing j (chain_rises (length tops) links first js chain_now) k.among k.over k.most k.in_tops k.in_on full;
   }
 
   all_chains : Eased τ tops₀ on₀ tops on js h → (is : List ℕ) → Chain (length tops₀) links first is → Eased τ tops₀ on₀ tops on is h

@@ -32,23 +32,23 @@ module _ (n m : Net) (vs os : List ℕ) (a : Judged) (ea : a ≡ judged n) where
   first_refused r e = record { answer = rw (← ea, e); column = rw (← ea, e) }
 
   module _ (sa : a ≡ Sound) (b : Judged) (eb : b ≡ judged m) where
-    pub first-sound : SoundNet n
-    first-sound = sound_says n (sym ea ∙ sa)
+    pub first_sound : SoundNet n
+    first_sound = sound_says n (sym ea ∙ sa)
 
-    pub second-refused : (r : Refusal) → b ≡ Refused r → CarriedIs n m vs os (Outcome.SecondNet r) os
-    second-refused r e = record { answer = rw (← ea, sa, ← eb, e); column = rw (← ea, sa, ← eb, e) }
+    pub second_refused : (r : Refusal) → b ≡ Refused r → CarriedIs n m vs os (Outcome.SecondNet r) os
+    second_refused r e = record { answer = rw (← ea, sa, ← eb, e); column = rw (← ea, sa, ← eb, e) }
 
     module _ (sb : b ≡ Sound) where
-      pub second-sound : SoundNet m
-      second-sound = sound_says m (sym eb ∙ sb)
+      pub second_sound : SoundNet m
+      second_sound = sound_says m (sym eb ∙ sb)
 
       module _ (c : Judged) (ec : c ≡ ease_judged n m) where
-        pub ease-refused : (r : Refusal) → c ≡ Refused r → CarriedIs n m vs os (Outcome.Refused r) os
-        ease-refused r e = record { answer = rw (← ea, sa, ← eb, sb, ← ec, e); column = rw (← ea, sa, ← eb, sb, ← ec, e) }
+        pub ease_refused : (r : Refusal) → c ≡ Refused r → CarriedIs n m vs os (Outcome.Refused r) os
+        ease_refused r e = record { answer = rw (← ea, sa, ← eb, sb, ← ec, e); column = rw (← ea, sa, ← eb, sb, ← ec, e) }
 
         module _ (sc : c ≡ Sound) (v : Verdict) (ev : v ≡ verdict n vs os) where
-          pub check-refused : (r : Refusal) → v ≡ Verdict.Refused r → CarriedIs n m vs os (Outcome.Refused r) os
-          check-refused r e =
+          pub check_refused : (r : Refusal) → v ≡ Verdict.Refused r → CarriedIs n m vs os (Outcome.Refused r) os
+          check_refused r e =
               let q : checked n vs os ≡ Refused r = verdict_refused (checked n vs os) (length vs) (source_drives n (offsets_on (entries vs os))) r (sym ev ∙ e) in
               record { answer = rw (← ea, sa, ← eb, sb, ← ec, sc, q); column = rw (← ea, sa, ← eb, sb, ← ec, sc, q) }
 
@@ -64,7 +64,7 @@ module _ (n m : Net) (vs os : List ℕ) (a : Judged) (ea : a ≡ judged n) where
             same_places = ap length (eased_says n m (sym ea ∙ sa) (sym eb ∙ sb) (sym ec ∙ sc)).parents
 
             pub on_wires_lem : OnWires m.wires vs os
-            on_wires_lem = record { even = columns_even legal; on = λ k h. omega (arith, columns_within legal k h, same_places, second-sound.wires_long) }
+            on_wires_lem = record { even = columns_even legal; on = λ k h. omega (arith, columns_within legal k h, same_places, second_sound.wires_long) }
 
-            pub all-carried : (after : List ℕ) → ((x : Net) → x.wires ≡ m.wires → after ≡ offsets_of (carried x (entries vs os))) → CarriedIs n m vs os (Outcome.Carried (length vs)) after
-            all-carried after e = record { answer = rw (← ea, sa, ← eb, sb, ← ec, sc, passed); column = rw (← ea, sa, ← eb, sb, ← ec, sc, passed) (e m refl) }
+            pub all_carried : (after : List ℕ) → ((x : Net) → x.wires ≡ m.wires → after ≡ offsets_of (carried x (entries vs os))) → CarriedIs n m vs os (Outcome.Carried (length vs)) after
+            all_carried after e = record { answer = rw (← ea, sa, ← eb, sb, ← ec, sc, passed); column = rw (← ea, sa, ← eb, sb, ← ec, sc, passed) (e m refl) }

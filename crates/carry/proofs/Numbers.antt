@@ -47,17 +47,17 @@ module _ (n m : Net) (vs os : List ℕ) where
   unfolding given_by rest
   given = by_first (judged n) refl
     where
-      by-ease : judged n ≡ judgements.Sound → judged m ≡ judgements.Sound → Tested (ease_judged n m) (Eases n m) 13
+      by_ease : judged n ≡ judgements.Sound → judged m ≡ judgements.Sound → Tested (ease_judged n m) (Eases n m) 13
           → CarryGives n m vs os 0 (judged_number (then_judge (ease_judged n m) (checked n vs os)))
-      by-ease s t (held e eased) = rw e (of_placement refl s t eased ((checked_numbers n vs os (judged_number (checked n vs os))).0 refl))
-      by-ease s t (failed e c not) = rw e (not_eased refl c s t not)
+      by_ease s t (held e eased) = rw e (of_placement refl s t eased ((checked_numbers n vs os (judged_number (checked n vs os))).0 refl))
+      by_ease s t (failed e c not) = rw e (not_eased refl c s t not)
 
-      by-second : judged n ≡ judgements.Sound → (j : Judged) → judged m ≡ j → given_by (second_net j (placement_of rest (length vs)))
-      by-second s judgements.Sound t = rw (neither rest (length vs), by_judgement rest (length vs)) (by-ease s t (tested (ease_tested n m s t)))
-      by-second s (judgements.Refused x) t = of_second refl s (record { refusal = x; refused = t; number = refl })
+      by_second : judged n ≡ judgements.Sound → (j : Judged) → judged m ≡ j → given_by (second_net j (placement_of rest (length vs)))
+      by_second s judgements.Sound t = rw (neither rest (length vs), by_judgement rest (length vs)) (by_ease s t (tested (ease_tested n m s t)))
+      by_second s (judgements.Refused x) t = of_second refl s (record { refusal = x; refused = t; number = refl })
 
       by_first : (j : Judged) → judged n ≡ j → given_by (first_net j (second_net (judged m) (placement_of rest (length vs))))
-      by_first judgements.Sound s = by-second s (judged m) refl
+      by_first judgements.Sound s = by_second s (judged m) refl
       by_first (judgements.Refused x) s = of_first refl (record { refusal = x; refused = s; number = refl })
 
   alone : (which k : ℕ) → CarryGives n m vs os which k → (which_net (outcome n m vs os) ≡ which) × (outcome_number (outcome n m vs os) ≡ k)

@@ -24,11 +24,11 @@ module _ {n m : Net} {i : ℕ} (g : Easing n m i) where
     tested : node_eases (node n i) (node m i) ≡ z
     tested = sym (ez ∙ rw (ea, eb))
 
-    pub easing-next : z ≡ true → Easing n m (i + 1)
-    easing-next t = record { going = going_next g.going (omega arith) (rw (tested, t)) }
+    pub easing_next : z ≡ true → Easing n m (i + 1)
+    easing_next t = record { going = going_next g.going (omega arith) (rw (tested, t)) }
 
-    pub easing-stop : z ≡ false → Refused (NotEased i) ≡ nodes_ease n m
-    easing-stop t = going_stop g.going (omega arith) (Refused (NotEased i)) (NotEased i) refl (rw (tested, t))
+    pub easing_stop : z ≡ false → Refused (NotEased i) ≡ nodes_ease n m
+    easing_stop t = going_stop g.going (omega arith) (Refused (NotEased i)) (NotEased i) refl (rw (tested, t))
 
   pub easing_end : 1 ≤ places n → places n ≤ i → Sound ≡ nodes_ease n m
   easing_end o h = going_end g.going (omega arith)

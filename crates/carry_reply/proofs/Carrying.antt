@@ -67,30 +67,30 @@ module _ {n m : Net} (ws os : List ℕ) {after : List ℕ} {r : Outcome} (a : ju
   carry_passes other = not_refused r (judgement n m ws os) (length ws) sound_nets other
 
   module _ (passed : judgement n m ws os ≡ Sound) where
-    all-carried : r ≡ Outcome.Carried (length ws)
-    all-carried = sound_nets ∙ ap (λ (j : Judged). placement_of j (length ws)) passed
+    all_carried : r ≡ Outcome.Carried (length ws)
+    all_carried = sound_nets ∙ ap (λ (j : Judged). placement_of j (length ws)) passed
 
-    pub carry-legal : LegalColumns m ws after
-    carry-legal = carried_is_legal is (length ws) all-carried
+    pub carry_legal : LegalColumns m ws after
+    carry_legal = carried_is_legal is (length ws) all_carried
 
-    pub carry-fit : Fit ws after
-    carry-fit = legal_fit carry-legal
+    pub carry_fit : Fit ws after
+    carry_fit = legal_fit carry_legal
 
     cut : after ≡ offsets_of (carried m (entries ws os))
-    cut = is.column ∙ ap (λ (o : Outcome). column_after o m ws os) (sym is.answer ∙ all-carried)
+    cut = is.column ∙ ap (λ (o : Outcome). column_after o m ws os) (sym is.answer ∙ all_carried)
 
     whole : entries ws after ≡ carried m (entries ws os)
     whole =
         let first = (checked_is_legal n ws os).0 (then_met (ease_judged n m) (checked n ws os) passed).1 in
         ap (entries ws) cut ∙ cut_entries m ws os (columns_even first)
 
-    pub carry-said : answered (counted_text carried_word ws after) (placement_bytes (entries ws after)) ≡ carry_said n m ws os
-    carry-said =
+    pub carry_said_lem : answered (counted_text carried_word ws after) (placement_bytes (entries ws after)) ≡ carry_said n m ws os
+    carry_said_lem =
         ap (λ (l : List ℕ). answered (counted_text carried_word ws l) (placement_bytes (entries ws after))) cut
         ∙ ap (λ (p : List Entry). answered (carried_text m ws os) (placement_bytes p)) whole
         ∙ sym (ap (λ (j : Judged). or_refusal j (answered (carried_text m ws os) (carried_file m ws os))) passed)
 
-    pub carry-tells : {out file : List ℕ} {x : Reply}
+    pub carry_tells : {out file : List ℕ} {x : Reply}
         → Replies (answered (counted_text carried_word ws after) (placement_bytes (entries ws after))) out file x
         → Replies (carry_said n m ws os) out file x
-    carry-tells {out} {file} {x} t = subst (λ (s : Said). Replies s out file x) carry-said t
+    carry_tells {out} {file} {x} t = subst (λ (s : Said). Replies s out file x) carry_said_lem t

@@ -18,7 +18,7 @@ use Rattle.reply.proofs.Judged.{answered_passed}
 use Rattle.check_reply.specs.Checks.{legal_text, check_said}
 use Rattle.check_reply.proofs.Says.{legal_says}
 use Rattle.carry_reply.specs.Carries.{carried_word, carried_text, carried_file, carry_said}
-use Rattle.carry_reply.proofs.Carrying.{judgement, legal_placed, carry-legal, carry-said}
+use Rattle.carry_reply.proofs.Carrying.{judgement, legal_placed, carry_legal, carry_said_lem}
 
 -- the file's entries, what is printed of them and what `check` says of them on the second net
 pub record Written (n m : Net) (ws os : List ℕ) : Type 0 where
@@ -33,8 +33,8 @@ module _ (n m : Net) (ws os : List ℕ) (a : judged n ≡ Sound) (b : judged m �
       let after = column_after (outcome n m ws os) m ws os in
       let is : CarriedIs n m ws os (outcome n m ws os) after = record { answer = refl; column = refl } in
       let passed = answered_passed (judgement n m ws os) (carried_text m ws os) (carried_file m ws os) e in
-      let said = sym (carry-said ws os a b is passed) in
-      let legal = carry-legal ws os a b is passed in
+      let said = sym (carry_said_lem ws os a b is passed) in
+      let legal = carry_legal ws os a b is passed in
       let p = entries ws after in
       let (w, o) = split ws after (columns_even legal) in
       record {

@@ -35,12 +35,12 @@ module _ (n : Net) (vs os : List ℕ) where
   given : CheckGives n vs os (judged_number (then_judge (judged n) (columns_judged n vs os)))
   given = by_net (judged n) refl
     where
-      by-columns : judged n ≡ Sound → Tested (unless (placement_fits vs os) WrongColumns) (PlacementFits vs os) 7 → CheckGives n vs os (judged_number (columns_judged n vs os))
-      by-columns s (held e fit) = rw e (of_placement s fit ((placement_numbers n (entries vs os) (judged_number (placement_judged n (entries vs os)))).0 refl))
-      by-columns s (failed e c not) = rw e (wrong_columns c s not)
+      by_columns : judged n ≡ Sound → Tested (unless (placement_fits vs os) WrongColumns) (PlacementFits vs os) 7 → CheckGives n vs os (judged_number (columns_judged n vs os))
+      by_columns s (held e fit) = rw e (of_placement s fit ((placement_numbers n (entries vs os) (judged_number (placement_judged n (entries vs os)))).0 refl))
+      by_columns s (failed e c not) = rw e (wrong_columns c s not)
 
       by_net : (j : Judged) → judged n ≡ j → CheckGives n vs os (judged_number (then_judge j (columns_judged n vs os)))
-      by_net Sound e = by-columns e (tested (columns_tested vs os))
+      by_net Sound e = by_columns e (tested (columns_tested vs os))
       by_net (Refused x) e = of_net (record { refusal = x; refused = e; number = refl })
 
   alone : (k : ℕ) → CheckGives n vs os k → judged_number (then_judge (judged n) (columns_judged n vs os)) ≡ k

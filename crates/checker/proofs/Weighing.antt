@@ -43,11 +43,11 @@ module _ (n : Net) (vs os : List ℕ) (x : ℕ) (ex : x ≡ load_below n (offset
   source_over l = rw (← ex, lt-leb x n.limits.limit l)
 
   module _ (l : x ≤ n.limits.limit) (b : Judged) (eb : b ≡ one_sense n (offsets_on (entries vs os))) where
-    pub senses-over : (r : Refusal) → b ≡ Refused r → Verdict.Refused r ≡ settled n vs os
-    senses-over r e = rw (← ex, le-leb x n.limits.limit l, ← eb, e)
+    pub senses_over : (r : Refusal) → b ≡ Refused r → Verdict.Refused r ≡ settled n vs os
+    senses_over r e = rw (← ex, le-leb x n.limits.limit l, ← eb, e)
 
-    pub all-legal : b ≡ Sound → Verdict.Legal (length vs) x ≡ settled n vs os
-    all-legal e = rw (← ex, le-leb x n.limits.limit l, ← eb, e)
+    pub all_legal : b ≡ Sound → Verdict.Legal (length vs) x ≡ settled n vs os
+    all_legal e = rw (← ex, le-leb x n.limits.limit l, ← eb, e)
 
 -- ---- the whole
 module _ (n : Net) (vs os : List ℕ) (b : Judged) (eb : b ≡ begun n vs os) where

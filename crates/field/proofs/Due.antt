@@ -66,15 +66,15 @@ found tag (Refused r) e = never (cc)
 pub due_place_lem : (tag : ℕ) (s : List ℕ) (at : ℕ) → due_place (due_at tag s at) ≡ at
 due_place_lem tag s at = of (field_at s at) ∙ read_place_lem s at
   where
-    of-got : (b : Bool) (f : Field) → due_place (pick b (Found f) (Missing (NotDue f.at))) ≡ f.at
-    of-got true f = refl
-    of-got false f = refl
+    of_got : (b : Bool) (f : Field) → due_place (pick b (Found f) (Missing (NotDue f.at))) ≡ f.at
+    of_got true f = refl
+    of_got false f = refl
 
     of_cut : (b : Bool) (place : ℕ) → place_of (cut_at b place) ≡ place
     of_cut true place = refl
     of_cut false place = refl
 
     of : (r : FieldRead) → due_place (due_in tag r) ≡ read_place r
-    of (Got f) = of-got (eqb (tag_of f.value) tag) f
+    of (Got f) = of_got (eqb (tag_of f.value) tag) f
     of (Cut t place) = of_cut (eqb t tag) place
     of (Refused r) = refl

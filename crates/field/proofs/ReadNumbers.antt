@@ -60,11 +60,11 @@ module _ (s : List ℕ) (at : ℕ) where
     says_so : number_at 2 (drop at s) 1 ≡ length_of (get_or (drop at s) 0 0)
     says_so = said_length ∙ h.says ∙ ap length_of (sym first_byte)
 
-    cut-is : length s < at + 3 + length_of (get_or s at 0) → Cut (get_or s at 0) at ≡ field_at s at
-    cut-is l = ap (λ (t : ℕ). Cut t at) (sym first_byte) ∙ cut at (drop at s) (long h.whole) refl refl says_so (omega (arith, l, length-drop at s, ap length_of first_byte, h.whole))
+    cut_is : length s < at + 3 + length_of (get_or s at 0) → Cut (get_or s at 0) at ≡ field_at s at
+    cut_is l = ap (λ (t : ℕ). Cut t at) (sym first_byte) ∙ cut at (drop at s) (long h.whole) refl refl says_so (omega (arith, l, length-drop at s, ap length_of first_byte, h.whole))
 
-    got-is : at + 3 + length_of (get_or s at 0) ≤ length s → Got (there s at) ≡ field_at s at
-    got-is l = got at (drop at s) (long h.whole) refl refl says_so (omega (arith, l, length-drop at s, ap length_of first_byte)) refl
+    got_is : at + 3 + length_of (get_or s at 0) ≤ length s → Got (there s at) ≡ field_at s at
+    got_is l = got at (drop at s) (long h.whole) refl refl says_so (omega (arith, l, length-drop at s, ap length_of first_byte)) refl
 
 -- the four ways that the bytes can be
 data Seen (s : List ℕ) (at : ℕ) : Type 0 where
@@ -97,11 +97,11 @@ module _ (due : ℕ → Bool) (s : List ℕ) (at : ℕ) where
   given e = ap (read_number due) (sym e)
 
   row_given : {k : ℕ} → FieldRow due s at k → read_number due (field_at s at) ≡ k
-  row_given (whole_field h l q) = given (got-is s at h l) ∙ sym q
+  row_given (whole_field h l q) = given (got_is s at h l) ∙ sym q
   row_given (header_cut l q) = given (short_is s at l) ∙ sym q
   row_given (unknown l n q) = given (other_is s at l n) ∙ sym q
-  row_given (body_cut h l d q) = given (cut-is s at h l) ∙ ap (λ (b : Bool). pick b 1 2) d ∙ sym q
-  row_given (body_not_due h l d q) = given (cut-is s at h l) ∙ ap (λ (b : Bool). pick b 1 2) d ∙ sym q
+  row_given (body_cut h l d q) = given (cut_is s at h l) ∙ ap (λ (b : Bool). pick b 1 2) d ∙ sym q
+  row_given (body_not_due h l d q) = given (cut_is s at h l) ∙ ap (λ (b : Bool). pick b 1 2) d ∙ sym q
 
   of_body : Headed s at → length s < at + 3 + length_of (get_or s at 0) → (b : Bool) → due (get_or s at 0) ≡ b → FieldRow due s at (pick b 1 2)
   of_body h l true d = body_cut h l d refl
@@ -110,8 +110,8 @@ module _ (due : ℕ → Bool) (s : List ℕ) (at : ℕ) where
   row_of : Seen s at → FieldRow due s at (read_number due (field_at s at))
   row_of (no_header l) = header_cut l (given (short_is s at l))
   row_of (no_such l n) = unknown l n (given (other_is s at l n))
-  row_of (no_body h l) = subst (FieldRow due s at) (sym (given (cut-is s at h l))) (of_body h l (due (get_or s at 0)) refl)
-  row_of (all h l) = whole_field h l (given (got-is s at h l))
+  row_of (no_body h l) = subst (FieldRow due s at) (sym (given (cut_is s at h l))) (of_body h l (due (get_or s at 0)) refl)
+  row_of (all h l) = whole_field h l (given (got_is s at h l))
 
   pub field_row : (k : ℕ) → FieldRow due s at k ↔ (read_number due (field_at s at) ≡ k)
   field_row k = (row_given, λ e. subst (FieldRow due s at) e (row_of (seen s at)))
@@ -149,13 +149,13 @@ module _ (tag : ℕ) (s : List ℕ) (by : AreBytes s) (at : ℕ) where
   tag_there t e = sym (this_due at (drop at s) bytes_there (first_byte s at ∙ t)) ∙ ap as_due (sym e)
 
   pub holds_found : Holds tag s at → due_at tag s at ≡ Found (there s at)
-  holds_found h = tag_there h.tagged (got-is s at h.headed (rw (← h.tagged) at h.whole))
+  holds_found h = tag_there h.tagged (got_is s at h.headed (rw (← h.tagged) at h.whole))
 
   pub lacks_missing : {k : ℕ} → Lacks tag s at k → Said k
   lacks_missing (short_header l q) = record { why = FileEnds at; is = ap (due_in tag) (sym (short_is s at l)); number = sym q; place = refl }
   lacks_missing (other_tag l n q) = record { why = NotDue at; is = sym (other_due at (drop at s) bytes_there (long s at l) (λ e. n (sym (first_byte s at) ∙ e))); number = sym q; place = refl }
   lacks_missing (wrong_length l n q) = record { why = NotDue at; is = ap (due_in tag) (sym (other_is s at l n)); number = sym q; place = refl }
-  lacks_missing (short_body h t l q) = record { why = FileEnds at; is = tag_there t (cut-is s at h (rw (← t) at l)); number = sym q; place = refl }
+  lacks_missing (short_body h t l q) = record { why = FileEnds at; is = tag_there t (cut_is s at h (rw (← t) at l)); number = sym q; place = refl }
 
   of_seen : Dec (get_or s at 0 ≡ tag) → Seen s at → (k : ℕ) × DueRow tag s at k
   of_seen d (no_header l) = (1, missing (short_header l refl))

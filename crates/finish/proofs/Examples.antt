@@ -22,9 +22,9 @@ use Rattle.frontier.specs.Placed.{on_wire, on_wires, placed}
 use Rattle.frontier.specs.Spaced.{spread}
 use Rattle.frontier.specs.Starred.{limits, plus, net_of, on}
 use Rattle.relief.specs.Pieces.{topmost, lead_of, bare, added_from}
-use Rattle.relief.specs.Marks.{light, heavy, Marks, hands, added_at, Relieved, Marked, pin-over}
+use Rattle.relief.specs.Marks.{light, heavy, Marks, hands, added_at, Relieved, Marked, pin_over}
 use Rattle.relief.proofs.Pieces.{T-ceil}
-use Rattle.relief.proofs.Least.{least-added, none_completes}
+use Rattle.relief.proofs.Least.{least_added, none_completes}
 use Rattle.finish.specs.Answer.{half_judged}
 
 abbrev ten : Limits
@@ -66,7 +66,7 @@ lone_marked w c g h = record { fits = fits; sinks = sinks; nodes = nodes }
     nodes (suc (suc v)) lo hi k = absurd (omega arith)
 
 adds : (w c : ℕ) (g : List Entry) → judged (lone w c) ≡ Sound → c ≤ 10 → InOrder (lone w c) start g → LeastAdded (lone w c) g (length (placed (lone w c) (added_at τ (lone w c) (offsets_on g) (lone_marks w c g))))
-adds w c g s h o = least-added (sound_says (lone w c) s) refl g o (lone_marks w c g) (lone_marked w c g h)
+adds w c g s h o = least_added (sound_says (lone w c) s) refl g o (lone_marks w c g) (lone_marked w c g h)
 
 legal_already : LeastAdded (lone 14 4) (on 1 6 ∷ []) 0
 unfolding judged judge_each children offsets_on on_wire on_wires added_from spread ceil topmost
@@ -92,7 +92,7 @@ pin_eleven : NoneCompletes (lone 0 11) (on 1 0 ∷ [])
 unfolding judged judge_each children offsets_on
 pin_eleven =
     none_completes (sound_says (lone 0 11) refl) refl (on 1 0 ∷ []) (higher (omega arith), record { above = omega arith; within = omega arith; offset = omega arith }, tt) (lone_marks 0 11 (on 1 0 ∷ [])) 1 (omega arith)
-    (record { fits = λ i lo hi. absurd (omega arith); sinks = λ i lo hi. absurd (omega arith); nodes = λ i lo hi. absurd (omega arith) }) (pin-over refl (omega arith))
+    (record { fits = λ i lo hi. absurd (omega arith); sinks = λ i lo hi. absurd (omega arith); nodes = λ i lo hi. absurd (omega arith) }) (pin_over refl (omega arith))
 
 -- ---- five sinks: the given one hands up 2, and each of the others takes a buffer
 abbrev five : Net
@@ -110,7 +110,7 @@ five_tops (suc (suc i)) = 1
 five_sinks : LeastAdded five (on 1 0 ∷ []) 4
 unfolding judged judge_each children hanging offsets_on on_wire on_wires added_from spread ceil topmost
 five_sinks =
-    least-added (sound_says five refl) refl (on 1 0 ∷ []) (higher (omega arith), record { above = omega arith; within = omega arith; offset = omega arith }, tt) (record { load = five_loads; on = five_tops })
+    least_added (sound_says five refl) refl (on 1 0 ∷ []) (higher (omega arith), record { above = omega arith; within = omega arith; offset = omega arith }, tt) (record { load = five_loads; on = five_tops })
     (record { fits = fits; sinks = sinks; nodes = nodes })
   where
     fits : (i : ℕ) → 0 ≤ i → i < 6 → five_loads i ≤ 10

@@ -65,16 +65,16 @@ module _ (n : Net) (gw go : List ℕ) where
       by_order s b fit (held e o) = rw e (ready refl (record { sound = s; buffers = b; fit = fit; order = o }))
       by_order s b fit (failed e c not) = rw e (misplaced c s b fit not)
 
-      by-columns : judged n ≡ judge.Sound → n.limits.repeater ≡ 0 → Tested (unless (placement_fits gw go) WrongColumns) (PlacementFits gw go) 7 → HalfGives n gw go (judged_number third)
-      by-columns s b (held e fit) = rw e (by_order s b fit (tested (order_tested n (entries gw go))))
-      by-columns s b (failed e c not) = rw e (wrong_columns c s b not)
+      by_columns : judged n ≡ judge.Sound → n.limits.repeater ≡ 0 → Tested (unless (placement_fits gw go) WrongColumns) (PlacementFits gw go) 7 → HalfGives n gw go (judged_number third)
+      by_columns s b (held e fit) = rw e (by_order s b fit (tested (order_tested n (entries gw go))))
+      by_columns s b (failed e c not) = rw e (wrong_columns c s b not)
 
-      by-type : judged n ≡ judge.Sound → Tested (unless (eqb n.limits.repeater 0) (OutOfRange 0)) (n.limits.repeater ≡ 0) 3 → HalfGives n gw go (judged_number second)
-      by-type s (held e b) = rw e (by-columns s b (tested (columns_tested gw go)))
-      by-type s (failed e c not) = rw e (inverters c s not)
+      by_type : judged n ≡ judge.Sound → Tested (unless (eqb n.limits.repeater 0) (OutOfRange 0)) (n.limits.repeater ≡ 0) 3 → HalfGives n gw go (judged_number second)
+      by_type s (held e b) = rw e (by_columns s b (tested (columns_tested gw go)))
+      by_type s (failed e c not) = rw e (inverters c s not)
 
       by_net : (j : Judged) → judged n ≡ j → HalfGives n gw go (judged_number (then_judge j second))
-      by_net judge.Sound e = by-type e (tested (buffers_tested n))
+      by_net judge.Sound e = by_type e (tested (buffers_tested n))
       by_net (judge.Refused x) e = of_net (record { refusal = x; refused = e; number = refl })
 
   alone_half : (k : ℕ) → HalfGives n gw go k → judged_number (then_judge (judged n) second) ≡ k

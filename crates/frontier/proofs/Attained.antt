@@ -126,12 +126,12 @@ module _ (τ : Cell) (eq : τ.cu ≡ τ.cb + τ.D) (pos : 1 ≤ τ.D) where
   add_top w at b (o ∷ os) = add_top w o τ.cb os
 
   module _ (X : ℕ → ℕ → ℕ → Type 0) where
-    watt-up : (κ : Kind) (w p : ℕ) → Up (WAtt τ X κ w p)
-    watt-up κ w p c c' l l' h g a = record { os = a.os; c₀ = a.c₀; b = a.b; under = a.under; good = a.good; cnt = omega (arith, a.cnt); top = omega (arith, a.top); fits = a.fits }
+    watt_up : (κ : Kind) (w p : ℕ) → Up (WAtt τ X κ w p)
+    watt_up κ w p c c' l l' h g a = record { os = a.os; c₀ = a.c₀; b = a.b; under = a.under; good = a.good; cnt = omega (arith, a.cnt); top = omega (arith, a.top); fits = a.fits }
 
     -- one more repeater at the upper end
-    watt-add : (κ : Kind) (w p p' c t : ℕ) → ((n : ℕ) → turn κ p n ≡ turn κ p' (suc n)) → WAtt τ X κ w p c t → WAtt τ X κ w p' (suc c) τ.cb
-    watt-add κ w p p' c t e a =
+    watt_add : (κ : Kind) (w p p' c t : ℕ) → ((n : ℕ) → turn κ p n ≡ turn κ p' (suc n)) → WAtt τ X κ w p c t → WAtt τ X κ w p' (suc c) τ.cb
+    watt_add κ w p p' c t e a =
         let len : length (a.os ++ (w ∷ [])) ≡ suc (length a.os) = omega (arith, length-append a.os (w ∷ [])) in
         record {
           os = a.os ++ (w ∷ []);
@@ -144,12 +144,12 @@ module _ (τ : Cell) (eq : τ.cu ≡ τ.cb + τ.D) (pos : 1 ≤ τ.D) where
           fits = omega (arith, add_top w 0 a.b a.os);
         }
 
-    watt-two : (κ : Kind) (w p c t : ℕ) → WAtt τ X κ w p c t → WAtt τ X κ w p (suc (suc c)) τ.cb
-    watt-two buf w p c t a = watt-up buf w p (suc c) (suc (suc c)) τ.cb τ.cb (omega arith) (omega arith) (watt-add buf w p p c t (λ n. refl) a)
-    watt-two inv w p c t a = watt-add inv w (suc p) p (suc c) τ.cb (λ n. omega arith) (watt-add inv w p (suc p) c t (λ n. omega arith) a)
+    watt_two : (κ : Kind) (w p c t : ℕ) → WAtt τ X κ w p c t → WAtt τ X κ w p (suc (suc c)) τ.cb
+    watt_two buf w p c t a = watt_up buf w p (suc c) (suc (suc c)) τ.cb τ.cb (omega arith) (omega arith) (watt_add buf w p p c t (λ n. refl) a)
+    watt_two inv w p c t a = watt_add inv w (suc p) p (suc c) τ.cb (λ n. omega arith) (watt_add inv w p (suc p) c t (λ n. omega arith) a)
 
-    base-att : (κ : Kind) (w n h p r : ℕ) → X (turn κ p r) n h → h ≤ τ.cu → w + h ≤ τ.cu + r * τ.D → WAtt τ X κ w p (n + r) (T τ (w + h) r)
-    base-att κ w n h p r x hc v =
+    base_att : (κ : Kind) (w n h p r : ℕ) → X (turn κ p r) n h → h ≤ τ.cu → w + h ≤ τ.cu + r * τ.D → WAtt τ X κ w p (n + r) (T τ (w + h) r)
+    base_att κ w n h p r x hc v =
         let len : length (spread τ w 0 h r) ≡ r = spread_length w 0 h r in
         let up : top_w τ w 0 h (spread τ w 0 h r) ≤ T τ (w + h) r = le_trans (spread_top w 0 h r (omega arith) hc) (T-mono τ eq pos ((w - 0) + h) (w + h) r (T τ (w + h) r) (omega arith) (le_refl (T τ (w + h) r))) in
         record {
@@ -163,35 +163,35 @@ module _ (τ : Cell) (eq : τ.cu ≡ τ.cb + τ.D) (pos : 1 ≤ τ.D) where
           fits = le_trans up (T-fits τ eq pos (w + h) r v);
         }
 
-    cand-att : (κ : Kind) (π w n h p : ℕ) → X (turn κ p (req τ κ π (w + h))) n h → h ≤ τ.cu → SAtt (WAtt τ X κ w p) (cand τ κ π n (w + h))
+    cand_att : (κ : Kind) (π w n h p : ℕ) → X (turn κ p (req τ κ π (w + h))) n h → h ≤ τ.cu → SAtt (WAtt τ X κ w p) (cand τ κ π n (w + h))
     unfolding cand second
-    cand-att buf π w n h p x hc =
+    cand_att buf π w n h p x hc =
         let r : ℕ = req τ buf π (w + h) in
-        let base : WAtt τ X buf w p (n + r) (T τ (w + h) r) = base-att buf w n h p r x hc (req_ok τ eq pos buf π (w + h)) in (
+        let base : WAtt τ X buf w p (n + r) (T τ (w + h) r) = base_att buf w n h p r x hc (req_ok τ eq pos buf π (w + h)) in (
           base,
-          pick (WAtt τ X buf w p) (suc (n + r)) (T τ (w + h) r) τ.cb (watt-up buf w p (n + r) (suc (n + r)) (T τ (w + h) r) (T τ (w + h) r) (omega arith) (omega arith) base)
-              (watt-add buf w p p (n + r) (T τ (w + h) r) (λ m. refl) base),
+          pick (WAtt τ X buf w p) (suc (n + r)) (T τ (w + h) r) τ.cb (watt_up buf w p (n + r) (suc (n + r)) (T τ (w + h) r) (T τ (w + h) r) (omega arith) (omega arith) base)
+              (watt_add buf w p p (n + r) (T τ (w + h) r) (λ m. refl) base),
         )
-    cand-att inv π w n h p x hc =
+    cand_att inv π w n h p x hc =
         let r : ℕ = req τ inv π (w + h) in
-        let base : WAtt τ X inv w p (n + r) (T τ (w + h) r) = base-att inv w n h p r x hc (req_ok τ eq pos inv π (w + h)) in
-        (base, watt-up inv w p (n + r) (suc (n + r)) (T τ (w + h) r) (T τ (w + h) r) (omega arith) (omega arith) base)
+        let base : WAtt τ X inv w p (n + r) (T τ (w + h) r) = base_att inv w n h p r x hc (req_ok τ eq pos inv π (w + h)) in
+        (base, watt_up inv w p (n + r) (suc (n + r)) (T τ (w + h) r) (T τ (w + h) r) (omega arith) (omega arith) base)
 
-    via-att : (κ : Kind) (π w p q : ℕ) (s : State) → ((v : ℕ) → turn κ p (req τ κ π v) ≡ q) → SAtt (X q) s → Tidy τ s → SAtt (WAtt τ X κ w p) (via τ κ π w s)
+    via_att : (κ : Kind) (π w p q : ℕ) (s : State) → ((v : ℕ) → turn κ p (req τ κ π v) ≡ q) → SAtt (X q) s → Tidy τ s → SAtt (WAtt τ X κ w p) (via τ κ π w s)
     unfolding via
-    via-att κ π w p q lost e x tidy = tt
-    via-att κ π w p q (has n h₀ h₁) e x tidy =
-        merge_att (WAtt τ X κ w p) (watt-up κ w p) (cand τ κ π n (w + h₀)) (cand τ κ π (suc n) (w + h₁))
-        (cand-att κ π w n h₀ p (subst (λ (q : ℕ). X q n h₀) (sym (e (w + h₀))) x.0) tidy.0)
-        (cand-att κ π w (suc n) h₁ p (subst (λ (q : ℕ). X q (suc n) h₁) (sym (e (w + h₁))) x.1) (omega arith))
+    via_att κ π w p q lost e x tidy = tt
+    via_att κ π w p q (has n h₀ h₁) e x tidy =
+        merge_att (WAtt τ X κ w p) (watt_up κ w p) (cand τ κ π n (w + h₀)) (cand τ κ π (suc n) (w + h₁))
+        (cand_att κ π w n h₀ p (subst (λ (q : ℕ). X q n h₀) (sym (e (w + h₀))) x.0) tidy.0)
+        (cand_att κ π w (suc n) h₁ p (subst (λ (q : ℕ). X q (suc n) h₁) (sym (e (w + h₁))) x.1) (omega arith))
 
-    wire-att : (κ : Kind) (w p : ℕ) (nd : ℕ → State) → ((q : ℕ) → SAtt (X q) (nd q)) → ((q : ℕ) → Tidy τ (nd q)) → SAtt (WAtt τ X κ w p) (wire τ κ w nd p)
+    wire_att : (κ : Kind) (w p : ℕ) (nd : ℕ → State) → ((q : ℕ) → SAtt (X q) (nd q)) → ((q : ℕ) → Tidy τ (nd q)) → SAtt (WAtt τ X κ w p) (wire τ κ w nd p)
     unfolding wire req
-    wire-att buf w p nd x tidy = via-att buf 0 w p p (nd p) (λ v. refl) (x p) (tidy p)
-    wire-att inv w p nd x tidy =
-        merge_att (WAtt τ X inv w p) (watt-up inv w p) (via τ inv 0 w (nd ((p + 0) % 2))) (via τ inv 1 w (nd ((p + 1) % 2)))
-        (via-att inv 0 w p ((p + 0) % 2) (nd ((p + 0) % 2)) (λ v. omega arith) (x ((p + 0) % 2)) (tidy ((p + 0) % 2)))
-        (via-att inv 1 w p ((p + 1) % 2) (nd ((p + 1) % 2)) (λ v. omega arith) (x ((p + 1) % 2)) (tidy ((p + 1) % 2)))
+    wire_att buf w p nd x tidy = via_att buf 0 w p p (nd p) (λ v. refl) (x p) (tidy p)
+    wire_att inv w p nd x tidy =
+        merge_att (WAtt τ X inv w p) (watt_up inv w p) (via τ inv 0 w (nd ((p + 0) % 2))) (via τ inv 1 w (nd ((p + 1) % 2)))
+        (via_att inv 0 w p ((p + 0) % 2) (nd ((p + 0) % 2)) (λ v. omega arith) (x ((p + 0) % 2)) (tidy ((p + 0) % 2)))
+        (via_att inv 1 w p ((p + 1) % 2) (nd ((p + 1) % 2)) (λ v. omega arith) (x ((p + 1) % 2)) (tidy ((p + 1) % 2)))
 
   -- ---- the wires under one point
   abbrev AAtt : (ℕ → ℕ → Type 0) → Acc → Type 0
@@ -202,14 +202,14 @@ module _ (τ : Cell) (eq : τ.cu ≡ τ.cb + τ.D) (pos : 1 ≤ τ.D) where
     put : (c t c' l d : ℕ) → c + c' ≤ d → Y c t → Z c' l → W d (t + l)
     put c t c' l d h y z = up (c + c') d (t + l) (t + l) h (le_refl (t + l)) (comb c t c' l y z)
 
-    conv-att : (m a b n : ℕ) (g : ℕ → ℕ) → Y m a → Y (suc m) b → ((e : ℕ) → Z (n + e) (g e)) → (e : ℕ) → W ((m + n) + e) (conv τ a b g e)
+    conv_att : (m a b n : ℕ) (g : ℕ → ℕ) → Y m a → Y (suc m) b → ((e : ℕ) → Z (n + e) (g e)) → (e : ℕ) → W ((m + n) + e) (conv τ a b g e)
     unfolding conv
-    conv-att m a b n g y₀ y₁ z zero = put m a (n + 0) (g 0) ((m + n) + 0) (omega arith) y₀ (z 0)
-    conv-att m a b n g y₀ y₁ z (suc zero) =
+    conv_att m a b n g y₀ y₁ z zero = put m a (n + 0) (g 0) ((m + n) + 0) (omega arith) y₀ (z 0)
+    conv_att m a b n g y₀ y₁ z (suc zero) =
         pick W ((m + n) + 1) (a + g 1) (b + g 0)
         (put m a (n + 1) (g 1) ((m + n) + 1) (omega arith) y₀ (z 1))
         (put (suc m) b (n + 0) (g 0) ((m + n) + 1) (omega arith) y₁ (z 0))
-    conv-att m a b n g y₀ y₁ z (suc (suc e)) =
+    conv_att m a b n g y₀ y₁ z (suc (suc e)) =
         let f : ℕ = (m + n) + suc (suc e) in
         pick W f (a + g (suc (suc e))) (min (b + g (suc e)) (min a τ.cb + g e))
         (put m a (n + suc (suc e)) (g (suc (suc e))) f (omega arith) y₀ (z (suc (suc e))))
@@ -219,11 +219,11 @@ module _ (τ : Cell) (eq : τ.cu ≡ τ.cb + τ.D) (pos : 1 ≤ τ.D) where
         (put m a (n + e) (g e) f (omega arith) y₀ (z e))
         (put (suc (suc m)) τ.cb (n + e) (g e) f (omega arith) (two m a y₀) (z e))))
 
-    join-att : (s : State) (x : Acc) → SAtt Y s → AAtt Z x → AAtt W (join τ s x)
+    join_att : (s : State) (x : Acc) → SAtt Y s → AAtt Z x → AAtt W (join τ s x)
     unfolding join
-    join-att lost x y z = tt
-    join-att (has m a b) fail y z = tt
-    join-att (has m a b) (all n g) y z = conv-att m a b n g y.0 y.1 z
+    join_att lost x y z = tt
+    join_att (has m a b) fail y z = tt
+    join_att (has m a b) (all n g) y z = conv_att m a b n g y.0 y.1 z
 
   ifz_att : (Z : ℕ → ℕ → Type 0) → Up Z → (x m e : ℕ) (g : ℕ → ℕ) (rest : State) → ((e : ℕ) → Z (m + e) (g e)) → SAtt Z rest → SAtt Z (ifz x (at_surplus m e g) rest)
   ifz_att Z up zero m e g rest z y =
@@ -274,12 +274,12 @@ module _ (τ : Cell) (eq : τ.cu ≡ τ.cb + τ.D) (pos : 1 ≤ τ.D) where
   unfolding acc
   attained none p = λ e. record { plan = tt; good = tt; par = tt; cnt = omega arith; top = omega arith }
   attained (sink i w c s r) p =
-      join-att (WAtt τ (LAtt c s) τ.kind w p) (PAtt τ r p) (PAtt τ (sink i w c s r) p) (patt_up (sink i w c s r) p) (sink_att i w c s r p) (watt-two (LAtt c s) τ.kind w p)
-      (wire τ τ.kind w (leaf τ c s) p) (acc τ r p) (wire-att (LAtt c s) τ.kind w p (leaf τ c s) (leaf_att c s) (leaf_tidy τ eq pos c s)) (attained r p)
+      join_att (WAtt τ (LAtt c s) τ.kind w p) (PAtt τ r p) (PAtt τ (sink i w c s r) p) (patt_up (sink i w c s r) p) (sink_att i w c s r p) (watt_two (LAtt c s) τ.kind w p)
+      (wire τ τ.kind w (leaf τ c s) p) (acc τ r p) (wire_att (LAtt c s) τ.kind w p (leaf τ c s) (leaf_att c s) (leaf_tidy τ eq pos c s)) (attained r p)
   attained (branch i w f r) p =
-      join-att (WAtt τ (PAtt τ f) τ.kind w p) (PAtt τ r p) (PAtt τ (branch i w f r) p) (patt_up (branch i w f r) p) (branch_att i w f r p) (watt-two (PAtt τ f) τ.kind w p)
+      join_att (WAtt τ (PAtt τ f) τ.kind w p) (PAtt τ r p) (PAtt τ (branch i w f r) p) (patt_up (branch i w f r) p) (branch_att i w f r p) (watt_two (PAtt τ f) τ.kind w p)
       (wire τ τ.kind w (λ q. close τ (2 * width f) (acc τ f q)) p) (acc τ r p)
-      (wire-att (PAtt τ f) τ.kind w p (λ q. close τ (2 * width f) (acc τ f q)) (λ q. close_att (PAtt τ f q) (patt_up f q) (2 * width f) (acc τ f q) (attained f q)) (λ q. close_tidy τ eq pos (2 * width f) (acc τ f q)))
+      (wire_att (PAtt τ f) τ.kind w p (λ q. close τ (2 * width f) (acc τ f q)) (λ q. close_att (PAtt τ f q) (patt_up f q) (2 * width f) (acc τ f q) (attained f q)) (λ q. close_tidy τ eq pos (2 * width f) (acc τ f q)))
       (attained r p)
 
   pub attained_node : (f : Hanging) (p : ℕ) → SAtt (PAtt τ f p) (node τ f p)

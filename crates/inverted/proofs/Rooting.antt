@@ -36,7 +36,7 @@ use Rattle.surplus.proofs.Hanging.{count_small}
 use Rattle.surplus.proofs.Pairs.{near_0}
 use Rattle.surplus.proofs.Dealing.{dealt_0}
 use Rattle.surplus.proofs.Passing.{hanging_each}
-use Rattle.surplus.proofs.Meeting.{slot_at, asks-under, not_ours}
+use Rattle.surplus.proofs.Meeting.{slot_at, asks_under, not_ours}
 use Rattle.surplus.proofs.Filling.{own_first, node_is, joined_none, closed_none}
 use Rattle.surplus.proofs.Deciding.{over_some, near_branch}
 use Rattle.surplus.proofs.Descending.{sense_at}
@@ -119,31 +119,31 @@ module _ {c : Cell} (ok : CellOk c) {n : Net} (sound : SoundNet n) {links : List
     pub root_is : {z : State} → merge x y ≡ z → frontier.root (model_of c) (tree n) ≡ z
     root_is q = sym (ap (λ (s : State). merge s y) (source_is (omega arith) e ex) ∙ ap (merge (close (model_of c) (2 * width (tree n)) (acc (model_of c) (tree n) 0))) (source_is (omega arith) e ey)) ∙ q
 
-    at-sense : (p : ℕ) → p ≤ 1 → at_sense p x y ≡ close (model_of c) (2 * width (tree n)) (acc (model_of c) (tree n) p)
-    at-sense zero l = source_is (omega arith) e ex
-    at-sense (suc zero) l = source_is (omega arith) e ey
-    at-sense (suc (suc p)) l = absurd (omega arith)
+    at_sense_lem : (p : ℕ) → p ≤ 1 → at_sense p x y ≡ close (model_of c) (2 * width (tree n)) (acc (model_of c) (tree n) p)
+    at_sense_lem zero l = source_is (omega arith) e ex
+    at_sense_lem (suc zero) l = source_is (omega arith) e ey
+    at_sense_lem (suc (suc p)) l = absurd (omega arith)
 
     pub rooted : {p N a b : ℕ} → Picks x y p → merge x y ≡ has N a b → Rooted (model_of c) n p N
     rooted {p} {N} {a} {b} k q =
         let (h, h₁, r) = k.is N a b q in
-        record { few = k.few; load = h; more = h₁; is = sym (at-sense p k.few) ∙ r; a = a; b = b; root = root_is q }
+        record { few = k.few; load = h; more = h₁; is = sym (at_sense_lem p k.few) ∙ r; a = a; b = b; root = root_is q }
 
   -- ---- the walk's beginning
   module _ {p N : ℕ} (r : Rooted (model_of c) n p N) where
-    under-source : Under (close (model_of c) (2 * width (tree n)) (acc (model_of c) (tree n) p)) 0 N r.load
-    under-source = subst (λ (s : State). Under s 0 N r.load) (sym r.is) (refl, refl)
+    under_source : Under (close (model_of c) (2 * width (tree n)) (acc (model_of c) (tree n) p)) 0 N r.load
+    under_source = subst (λ (s : State). Under s 0 N r.load) (sym r.is) (refl, refl)
 
-    state-is : close (model_of c) (2 * width (tree n)) (acc (model_of c) (tree n) p) ≡ near_state (count_at sums p (head_at links 0)) (field near p 0 0) (field near p 0 1) (field near p 0 2)
-    state-is = sym (source_is r.few refl refl)
+    state_is : close (model_of c) (2 * width (tree n)) (acc (model_of c) (tree n) p) ≡ near_state (count_at sums p (head_at links 0)) (field near p 0 0) (field near p 0 1) (field near p 0 2)
+    state_is = sym (source_is r.few refl refl)
 
     pub some : 1 ≤ field near p 0 2
-    some = over_some (count_at sums p (head_at links 0)) (field near p 0 0) (field near p 0 1) (field near p 0 2) 0 N r.load (subst (λ (s : State). Under s 0 N r.load) state-is under-source)
+    some = over_some (count_at sums p (head_at links 0)) (field near p 0 0) (field near p 0 1) (field near p 0 2) 0 N r.load (subst (λ (s : State). Under s 0 N r.load) state_is under_source)
 
     budget : Budgeted (acc (model_of c) (tree n) p) (field near p 0 2 - 1) N r.load
     budget =
         near_0 (model_of c) (2 * width (tree n)) (field near p 0 0) (field near p 0 1) (field near p 0 2 - 1) N r.load (acc (model_of c) (tree n) p)
-        (near_branch (model_of c) n p 0 (kind n 0) (field near p 0 0) (field near p 0 1) (field near p 0 2) sound.source some (cl.is 0 p (omega arith) sound.some r.few)) under-source
+        (near_branch (model_of c) n p 0 (kind n 0) (field near p 0 0) (field near p 0 1) (field near p 0 2) sound.source some (cl.is 0 p (omega arith) sound.some r.few)) under_source
 
     live : Alive (acc (model_of c) (tree n) p)
     live = go (acc (model_of c) (tree n) p) budget
@@ -155,16 +155,16 @@ module _ {c : Cell} (ok : CellOk c) {n : Net} (sound : SoundNet n) {links : List
     none_yet : (j : ℕ) → part_at (replicate most_places 0) j ≡ 0
     none_yet j = zero_at_lem most_places j
 
-    pub asks-source : Asks (model_of c) links slots (replicate most_places 0) p (head_at links 0) (tree n)
-    asks-source =
-        asks-under (model_of c) ok.eq ok.pos ok.small sound w r.few (replicate most_places 0) 0 (omega arith) sound.some first (length-replicate {A = ℕ} most_places 0) live (λ j q. none_yet j)
+    pub asks_source : Asks (model_of c) links slots (replicate most_places 0) p (head_at links 0) (tree n)
+    asks_source =
+        asks_under (model_of c) ok.eq ok.pos ok.small sound w r.few (replicate most_places 0) 0 (omega arith) sound.some first (length-replicate {A = ℕ} most_places 0) live (λ j q. none_yet j)
 
     sense : sense_at (set (replicate most_places 0) 0 p) 0 ≡ p
     sense = get_or-set_same (replicate most_places 0) 0 p 0 (omega (arith, length-replicate {A = ℕ} most_places 0))
 
-    begun-with : (ws os parts : List ℕ) → length parts ≡ most_places → Dealt (model_of c) (part_at parts) p (field near p 0 2 - 1) (tree n) → ((j : ℕ) → 1 ≤ parent n j → part_at parts j ≡ 0) → N ≤ room_in ws os
+    begun_with : (ws os parts : List ℕ) → length parts ≡ most_places → Dealt (model_of c) (part_at parts) p (field near p 0 2 - 1) (tree n) → ((j : ℕ) → 1 ≤ parent n j → part_at parts j ≡ 0) → N ≤ room_in ws os
         → Begun (model_of c) n (set (replicate most_places 0) 0 p) parts N ws os
-    begun-with ws os parts long dealt fresh room = record {
+    begun_with ws os parts long dealt fresh room = record {
       senses_long = simp length-set (length-replicate {A = ℕ} most_places 0);
       parts_long = long;
       sense = rw sense r.few;
@@ -179,15 +179,15 @@ module _ {c : Cell} (ok : CellOk c) {n : Net} (sound : SoundNet n) {links : List
       in_offsets = omega arith;
     }
 
-    dealt-none : field near p 0 2 - 1 ≡ 0 → Dealt (model_of c) (part_at (replicate most_places 0)) p (field near p 0 2 - 1) (tree n)
-    dealt-none q = rw q (dealt_0 (model_of c) (part_at (replicate most_places 0)) p (tree n) live (hanging_each sound 0 (λ j. part_at (replicate most_places 0) j ≡ 0) (λ j g u. none_yet j) 1))
+    dealt_none : field near p 0 2 - 1 ≡ 0 → Dealt (model_of c) (part_at (replicate most_places 0)) p (field near p 0 2 - 1) (tree n)
+    dealt_none q = rw q (dealt_0 (model_of c) (part_at (replicate most_places 0)) p (tree n) live (hanging_each sound 0 (λ j. part_at (replicate most_places 0) j ≡ 0) (λ j g u. none_yet j) 1))
 
     pub begun : (ws os parts : List ℕ) (e : ℕ) → e ≡ field near p 0 2 - 1 → Handed (model_of c) links slots (replicate most_places 0) p 0 e parts → N ≤ room_in ws os → Begun (model_of c) n (set (replicate most_places 0) 0 p) parts N ws os
     begun ws os parts e q y room = elim (ℕ_discrete e 0) [
-      | yes x ↦ rw (y.none x) (begun-with ws os (replicate most_places 0) (length-replicate {A = ℕ} most_places 0) (dealt-none (sym q ∙ x)) (λ j l. none_yet j) room)
+      | yes x ↦ rw (y.none x) (begun_with ws os (replicate most_places 0) (length-replicate {A = ℕ} most_places 0) (dealt_none (sym q ∙ x)) (λ j l. none_yet j) room)
       | no ne ↦
-          let o : Out (model_of c) (replicate most_places 0) parts p e (tree n) = y.dealt ne (tree n) asks-source in
-          begun-with ws os parts o.long (subst (λ (e : ℕ). Dealt (model_of c) (part_at parts) p e (tree n)) q o.dealt) (λ j l. o.kept j (not_ours sound 0 j (λ q. omega arith)) ∙ none_yet j) room
+          let o : Out (model_of c) (replicate most_places 0) parts p e (tree n) = y.dealt ne (tree n) asks_source in
+          begun_with ws os parts o.long (subst (λ (e : ℕ). Dealt (model_of c) (part_at parts) p e (tree n)) q o.dealt) (λ j l. o.kept j (not_ours sound 0 j (λ q. omega arith)) ∙ none_yet j) room
     ]
 
 -- ---- what it comes to

@@ -99,11 +99,11 @@ module _ {gw go aw ao : List ℕ} {i j : ℕ} (l : Left gw go aw ao i j) where
   none_added h = given-next _ _ (taken gw go l.even.given i (omega arith)) (λ z es e. nothing_first (all_taken aw ao l.even.added j (omega arith)) e) refl
 
   module _ (some : i < length gw) (more : j < length aw) where
-    pub given-first : After (at (get_or gw i 0) (get_or go i 0)) (at (get_or aw j 0) (get_or ao j 0)) → Next (drop i (entries gw go)) (drop j (entries aw ao)) 1
-    given-first h = given-next _ _ (taken gw go l.even.given i some) (λ z es e. rw (next_is aw ao l.even.added j z es e).0 h) refl
+    pub given_first : After (at (get_or gw i 0) (get_or go i 0)) (at (get_or aw j 0) (get_or ao j 0)) → Next (drop i (entries gw go)) (drop j (entries aw ao)) 1
+    given_first h = given-next _ _ (taken gw go l.even.given i some) (λ z es e. rw (next_is aw ao l.even.added j z es e).0 h) refl
 
-    pub added-first : After (at (get_or aw j 0) (get_or ao j 0)) (at (get_or gw i 0) (get_or go i 0)) → Next (drop i (entries gw go)) (drop j (entries aw ao)) 0
-    added-first h = Added-next _ _ (taken aw ao l.even.added j more) (λ z es e. rw (next_is gw go l.even.given i z es e).0 h) refl
+    pub added_first : After (at (get_or aw j 0) (get_or ao j 0)) (at (get_or gw i 0) (get_or go i 0)) → Next (drop i (entries gw go)) (drop j (entries aw ao)) 0
+    added_first h = Added-next _ _ (taken aw ao l.even.added j more) (λ z es e. rw (next_is gw go l.even.given i z es e).0 h) refl
 
   pub given_left : {r : ℕ} → Next (drop i (entries gw go)) (drop j (entries aw ao)) r → r ≡ 1 → i < length gw
   given_left (given-next x g' e p q) n = one_left gw go l.even.given i x g' e

@@ -63,20 +63,20 @@ module _ (n : Net) (vs os : List ℕ) (room : ℕ) where
   unfolding third second
   given = by_net (judged n) refl
     where
-      by-room : judged n ≡ Sound → PlacementFits vs os → InOrder n start (entries vs os) → Tested last (length vs ≤ room) 9 → ListGives n vs os room (judged_number last)
-      by-room s fit o (held e l) = rw e (listed refl s fit o l)
-      by-room s fit o (failed e c not) = rw e (no_room c s fit o (omega arith))
+      by_room : judged n ≡ Sound → PlacementFits vs os → InOrder n start (entries vs os) → Tested last (length vs ≤ room) 9 → ListGives n vs os room (judged_number last)
+      by_room s fit o (held e l) = rw e (listed refl s fit o l)
+      by_room s fit o (failed e c not) = rw e (no_room c s fit o (omega arith))
 
       by_order : judged n ≡ Sound → PlacementFits vs os → Tested (placed_from n start 0 (entries vs os)) (InOrder n start (entries vs os)) 10 → ListGives n vs os room (judged_number third)
-      by_order s fit (held e o) = rw e (by-room s fit o (tested room_test))
+      by_order s fit (held e o) = rw e (by_room s fit o (tested room_test))
       by_order s fit (failed e c not) = rw e (misplaced c s fit not)
 
-      by-columns : judged n ≡ Sound → Tested (unless (placement_fits vs os) WrongColumns) (PlacementFits vs os) 7 → ListGives n vs os room (judged_number second)
-      by-columns s (held e fit) = rw e (by_order s fit (tested (order_tested n (entries vs os))))
-      by-columns s (failed e c not) = rw e (wrong_columns c s not)
+      by_columns : judged n ≡ Sound → Tested (unless (placement_fits vs os) WrongColumns) (PlacementFits vs os) 7 → ListGives n vs os room (judged_number second)
+      by_columns s (held e fit) = rw e (by_order s fit (tested (order_tested n (entries vs os))))
+      by_columns s (failed e c not) = rw e (wrong_columns c s not)
 
       by_net : (j : Judged) → judged n ≡ j → ListGives n vs os room (judged_number (then_judge j second))
-      by_net Sound e = by-columns e (tested (columns_tested vs os))
+      by_net Sound e = by_columns e (tested (columns_tested vs os))
       by_net (Refused x) e = of_net (record { refusal = x; refused = e; number = refl })
 
   alone : (k : ℕ) → ListGives n vs os room k → judged_number (then_judge (judged n) second) ≡ k

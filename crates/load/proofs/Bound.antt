@@ -21,11 +21,11 @@ most_load = 11776000000
 pub hands_up_most : (cb w from load : ℕ) (os : List ℕ) → hands_up cb w from load os ≤ w + (load + cb)
 unfolding hands_up
 hands_up_most cb w from load [] = omega arith
-hands_up_most cb w from load (o ∷ os) = omega (arith, hands-up-last o os)
+hands_up_most cb w from load (o ∷ os) = omega (arith, hands_up_last o os)
   where
-    hands-up-last : (from : ℕ) (os : List ℕ) → hands_up cb w from cb os ≤ w + cb
-    hands-up-last from [] = omega arith
-    hands-up-last from (o ∷ os) = hands-up-last o os
+    hands_up_last : (from : ℕ) (os : List ℕ) → hands_up cb w from cb os ≤ w + cb
+    hands_up_last from [] = omega arith
+    hands_up_last from (o ∷ os) = hands_up_last o os
 
 -- the first k of f
 firsts : (ℕ → ℕ) → ℕ → ℕ

@@ -86,14 +86,14 @@ module _ {n : Net} {vs os : List ℕ} (p : Placed n vs os) where
       omega (arith, rw e at (joined_length (driven_on n (offsets_on (entries vs os))) begin (places n - 1) 1 counts), begin_one, begin_last)
 
   module _ (k : ℕ) (h : k < length vs) where
-    pub wire-within : get_or vs k 0 < places n
-    wire-within = (stands k h).within
+    pub wire_within : get_or vs k 0 < places n
+    wire_within = (stands k h).within
 
-    pub offset-within : get_or os k 0 ≤ wire n (get_or vs k 0)
-    offset-within = (stands k h).offset
+    pub offset_within : get_or os k 0 ≤ wire n (get_or vs k 0)
+    offset_within = (stands k h).offset
 
-    pub offset-most : get_or os k 0 ≤ most_wire
-    offset-most = omega (arith, (stands k h).offset, p.sound.wire_most (get_or vs k 0))
+    pub offset_most : get_or os k 0 ≤ most_wire
+    offset_most = omega (arith, (stands k h).offset, p.sound.wire_most (get_or vs k 0))
 
     -- where the entries of its wire begin and end
     pub since : begin (get_or vs k 0) ≤ k
@@ -108,12 +108,12 @@ module _ {n : Net} {vs os : List ℕ} (p : Placed n vs os) where
       | no l ↦ absurd (omega (arith, (begins (suc (get_or vs k 0))).from k (omega arith) h))
     ]
 
-    driven-at : get_or (driven n (offsets_on (entries vs os))) k 0 ≡ get_or (driven_on n (offsets_on (entries vs os)) (get_or vs k 0)) (k - begin (get_or vs k 0)) 0
+    driven_at : get_or (driven n (offsets_on (entries vs os))) k 0 ≡ get_or (driven_on n (offsets_on (entries vs os)) (get_or vs k 0)) (k - begin (get_or vs k 0)) 0
     unfolding driven
-    driven-at =
+    driven_at =
         let i : ℕ = get_or vs k 0 in
         let e : begin i - begin 1 + (k - begin i) ≡ k = omega (arith, begin_one, since) in
-        rw e at (joined_at (driven_on n (offsets_on (entries vs os))) begin (places n - 1) 1 counts i (k - begin i) (stands k h).above (omega (arith, wire-within)) (omega (arith, count i, since, until)))
+        rw e at (joined_at (driven_on n (offsets_on (entries vs os))) begin (places n - 1) 1 counts i (k - begin i) (stands k h).above (omega (arith, wire_within)) (omega (arith, count i, since, until)))
 
     -- the entry before it is on another wire, or there is none
     lowest : Stacked vs k false → k ≤ begin (get_or vs k 0)
@@ -129,24 +129,24 @@ module _ {n : Net} {vs os : List ℕ} (p : Placed n vs os) where
       | no l ↦ absurd (omega (arith, f.0, (begins (get_or vs k 0)).before (k - 1) (omega (arith, f.0)), f.1))
     ]
 
-    pub drives-lowest : Stacked vs k false → get_or (driven n (offsets_on (entries vs os))) k 0 ≡ get_or os k 0 + load_below n (offsets_on (entries vs os)) (get_or vs k 0)
+    pub drives_lowest : Stacked vs k false → get_or (driven n (offsets_on (entries vs os))) k 0 ≡ get_or os k 0 + load_below n (offsets_on (entries vs os)) (get_or vs k 0)
     unfolding driven_on
-    drives-lowest f =
+    drives_lowest f =
         let l : k ≤ begin (get_or vs k 0) = lowest f in
         let i : ℕ = get_or vs k 0 in
         let e : begin i ≡ k = omega (arith, since) in
         let z : k - begin i ≡ 0 = omega arith in
-        driven-at ∙ rw (z, on_wire_lem i) (lowest_drives n.limits.pin (load_below n (offsets_on (entries vs os)) i) (begin i) (begin (suc i)) os (omega (arith, until)) (end i)
+        driven_at ∙ rw (z, on_wire_lem i) (lowest_drives n.limits.pin (load_below n (offsets_on (entries vs os)) i) (begin i) (begin (suc i)) os (omega (arith, until)) (end i)
         ∙ ap (λ (x : ℕ). get_or os x 0 + load_below n (offsets_on (entries vs os)) i) e)
 
     pub drives_next : Stacked vs k true → get_or (driven n (offsets_on (entries vs os))) k 0 ≡ (get_or os k 0 - get_or os (k - 1) 0) + n.limits.pin
     unfolding driven_on
     drives_next f =
         let i : ℕ = get_or vs k 0 in
-        driven-at ∙ rw (on_wire_lem i) (next_drives n.limits.pin (load_below n (offsets_on (entries vs os)) i) (begin i) (begin (suc i)) k os (upper f) until (end i))
+        driven_at ∙ rw (on_wire_lem i) (next_drives n.limits.pin (load_below n (offsets_on (entries vs os)) i) (begin i) (begin (suc i)) k os (upper f) until (end i))
 
-    pub before-lower : Stacked vs k true → get_or os (k - 1) 0 ≤ get_or os k 0
-    before-lower f =
+    pub before_lower : Stacked vs k true → get_or os (k - 1) 0 ≤ get_or os k 0
+    before_lower f =
         let i : ℕ = get_or vs k 0 in
         let e : suc (k - 1) ≡ k = omega (arith, f.0) in
         rw e at (further_up n start vs os p.order p.even (k - 1) (omega arith) (rw e (mine i (k - 1) (omega (arith, upper f)) (omega (arith, until)))))

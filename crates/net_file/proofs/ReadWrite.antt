@@ -100,18 +100,18 @@ module _ (s : List ℕ) (by : AreBytes s) where
     abbrev N : Net
     N = columns_of l ds
 
-    node-bytes : (at i : ℕ) (d : Node) (next k : ℕ) → taken_at s at ≡ OneNode d next → get_or ds i source ≡ d → bytes_from (node N) k (suc i) ≡ drop next s → bytes_from (node N) (suc k) i ≡ drop at s
+    node_bytes : (at i : ℕ) (d : Node) (next k : ℕ) → taken_at s at ≡ OneNode d next → get_or ds i source ≡ d → bytes_from (node N) k (suc i) ≡ drop next s → bytes_from (node N) (suc k) i ≡ drop at s
     unfolding taken_at bytes_from
-    node-bytes at i d next k e h later =
+    node_bytes at i d next k e h later =
         let (f, got, v, n) = node_field d next (field_at s at) e in
         let next_is : next ≡ at + length (bytes_of (field_of d)) = n ∙ rw ((written_read s at f by got).place, v) in
         ap (λ (x : Node). bytes_of (field_of x) ++ bytes_from (node N) k (suc i)) (node_is l ds i ∙ h)
         ∙ ap (λ (x : List ℕ). bytes_of (field_of d) ++ x) (later ∙ ap (λ (x : ℕ). drop x s) next_is)
         ∙ sym (begins s by at f (field_of d) got v)
 
-    end-bytes : (at : ℕ) → taken_at s at ≡ Last → length s ≤ at + 3 → bytes_of End ≡ drop at s
+    end_bytes : (at : ℕ) → taken_at s at ≡ Last → length s ≤ at + 3 → bytes_of End ≡ drop at s
     unfolding taken_at
-    end-bytes at e h =
+    end_bytes at e h =
         let (f, got, v) = end_field (field_at s at) e in
         let none : drop (at + 3) s ≡ [] = drop_of_length-le s {i = at + 3} (omega arith) in
         sym (rw none at (begins s by at f End got v))
@@ -126,9 +126,9 @@ module _ (s : List ℕ) (by : AreBytes s) where
             → bytes_from (node N) (length (nodes_of (follow at t (fields_from k s)))) i ≡ drop at s
         on (OneNode d next) q j left later =
             let head : Heads ds i d (nodes_of (fields_from k s next)) = heads i left in
-            node-bytes at i d next (length (nodes_of (fields_from k s next))) q head.first (later next (then_met (node_judged N i at) _ j).1 head.others)
+            node_bytes at i d next (length (nodes_of (fields_from k s next))) q head.first (later next (then_met (node_judged N i at) _ j).1 head.others)
         on Last q j left later =
-            end-bytes at q (leb-true (length s) (at + 3) (unless_met _ (BytesAfterEnd (at + 3)) (then_met (unless (leb (length s) (at + 3)) (BytesAfterEnd (at + 3))) _ j).0))
+            end_bytes at q (leb-true (length s) (at + 3) (unless_met _ (BytesAfterEnd (at + 3)) (then_met (unless (leb (length s) (at + 3)) (BytesAfterEnd (at + 3))) _ j).0))
         on (Neither r) q j left later = never (cc)
 
 -- ---- the columns of a list of nodes

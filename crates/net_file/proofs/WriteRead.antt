@@ -101,16 +101,16 @@ module _ (n : Net) (holds : judged n ≡ Sound) where
       (both_met (leb (wire n i) most_wire) (end_in_range n.limits (node n i)) r).1
 
   module _ (s : List ℕ) where
-    node-here : (at i : ℕ) (rest : List ℕ) → 1 ≤ i → i < places n → drop at s ≡ bytes_of (field_of (node n i)) ++ rest → taken_at s at ≡ OneNode (node n i) (at + length (bytes_of (field_of (node n i))))
+    node_here : (at i : ℕ) (rest : List ℕ) → 1 ≤ i → i < places n → drop at s ≡ bytes_of (field_of (node n i)) ++ rest → taken_at s at ≡ OneNode (node n i) (at + length (bytes_of (field_of (node n i))))
     unfolding taken_at
-    node-here at i rest lo hi e =
+    node_here at i rest lo hi e =
         let f : SoundNet n = facts in
         let fit : Fitting (field_of (node n i)) = fitting (node n i) (omega (arith, f.lower i lo hi, f.few)) (f.wire_most i) (f.pin_most i) (omega (arith, f.polarity_most i, f.repeater_most)) in
         ap taken_of (field_back s at (field_of (node n i)) rest fit e) ∙ taken_back at n.limits (node n i) (in_range i lo hi)
 
-    end-here : (at : ℕ) → drop at s ≡ bytes_of End → taken_at s at ≡ Last
+    end_here : (at : ℕ) → drop at s ≡ bytes_of End → taken_at s at ≡ Last
     unfolding taken_at
-    end-here at e = ap taken_of (field_back s at End [] tt e)
+    end_here at e = ap taken_of (field_back s at End [] tt e)
 
     -- the fields from a place on, where m nodes from node i on stand there
     record Back (k at m i : ℕ) : Type 0 where
@@ -121,11 +121,11 @@ module _ (n : Net) (holds : judged n ≡ Sound) where
     unfolding fields_from fields_judged nodes_of bytes_from listed
     back m zero at i h lo e b = absurd (omega arith)
     back zero (suc k) at i h lo e b =
-        let t : taken_at s at ≡ Last = end-here at b in
+        let t : taken_at s at ≡ Last = end_here at b in
         let long : length s ≤ at + 3 = omega (arith, length-drop at s, ap length b) in
         record { nodes = rw t; sound = rw (t, le-leb (length s) (at + 3) long) met.4 }
     back (suc m) (suc k) at i h lo e b =
-        let t : taken_at s at ≡ OneNode (node n i) (at + length (bytes_of (field_of (node n i)))) = node-here at i (bytes_from (node n) m (suc i)) lo (omega arith) b in
+        let t : taken_at s at ≡ OneNode (node n i) (at + length (bytes_of (field_of (node n i)))) = node_here at i (bytes_from (node n) m (suc i)) lo (omega arith) b in
         let rest : drop (at + length (bytes_of (field_of (node n i)))) s ≡ bytes_from (node n) m (suc i) = after s (bytes_of (field_of (node n i))) (bytes_from (node n) m (suc i)) at b in
         let later : Back k (at + length (bytes_of (field_of (node n i)))) m (suc i) = back m k (at + length (bytes_of (field_of (node n i)))) (suc i) (omega arith) (omega arith) (omega arith) rest in
         let ok : node_judged n i at ≡ Sound = admitted_anywhere n.limits (node n i) i (kind n (parent n i)) (children n (i - 1) (parent n i)) i at (node_met i lo (omega arith)) in

@@ -44,12 +44,12 @@ module _ (nodes : ℕ → Node) (n : ℕ) (lent : Net) where
       record { few = omega arith; into = room_each n lent h; rest = ap (λ (k : ℕ). laid_over lent 0 (columns_of unlimited (listed nodes k 0))) z }
 
   module _ {now : Net} {i : ℕ} (c : Copying now i) where
-    pub copy-next : i < n → Copying (laid_over now i (columns_of unlimited (nodes i ∷ []))) (i + 1)
-    copy-next h = record {
+    pub copy_next : i < n → Copying (laid_over now i (columns_of unlimited (nodes i ∷ []))) (i + 1)
+    copy_next h = record {
       few = omega arith;
       into = room_kept now i (nodes i) c.into;
       rest = c.rest ∙ ap (λ (ds : List Node). laid_over now i (columns_of unlimited ds)) (listed_next nodes h) ∙ rw add-one;
     }
 
-    pub copy-end : n ≤ i → now ≡ laid_over lent 0 (columns_of unlimited (listed nodes n 0))
-    copy-end h = sym (c.rest ∙ ap (λ (ds : List Node). laid_over now i (columns_of unlimited ds)) (listed_end nodes h))
+    pub copy_end : n ≤ i → now ≡ laid_over lent 0 (columns_of unlimited (listed nodes n 0))
+    copy_end h = sym (c.rest ∙ ap (λ (ds : List Node). laid_over now i (columns_of unlimited ds)) (listed_end nodes h))

@@ -68,8 +68,8 @@ module _ (s : List ℕ) (lent : Net) {own : Net} {r : NetRead} (is : JudgedFile 
 
   module _ {l : Limits} {m : ℕ} (e : r ≡ Read l m) where
     -- it fits the reader's own columns
-    pub read-few : m ≤ most_places
-    read-few =
+    pub read_few : m ≤ most_places
+    read_few =
         let (n, o, h, k) = told_read (net_of s) l m (sym is.told ∙ e) in
         let w : WasRead s n = was_read s n o in
         omega (arith, h, (read_places_lem w).1)
@@ -87,7 +87,7 @@ module _ (s : List ℕ) (lent : Net) {own : Net} {r : NetRead} (is : JudgedFile 
         let all : List Node = source ∷ nodes_of (fields_of s) in
         let t = le-ltb (room lent) (places n) (rw h le) in
         let z : m ≡ length all = sym h ∙ (read_places_lem w).0 in
-        let few : m ≤ most_places = read-few in
+        let few : m ≤ most_places = read_few in
         let same : own ≡ laid_over blank 0 (columns_of unlimited all) = is.kept l m e in
         let ds : listed (node own) m 0 ≡ all = ap (λ (x : Net). listed (node x) m 0) same ∙ listed_all (node (laid_over blank 0 (columns_of unlimited all))) all (λ j lt. own_node all j (omega arith) lt) m 0 (omega arith) in
         record {

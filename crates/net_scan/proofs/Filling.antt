@@ -32,14 +32,14 @@ module _ (s : List ℕ) (places : ℕ) (lent : Net) where
         ∙ ap (λ (k : ℕ). laid_from now i k s at) z
         ∙ ap (λ (x : Taken). laid_over now i (columns_of unlimited (nodes_of (follow at x (fields_from (places - suc i) s))))) e
 
-    pub fill-next : i < places → {d : Node} {next : ℕ} → taken_at s at ≡ OneNode d next → {more : Net} → more ≡ laid_over now i (columns_of unlimited (d ∷ [])) → Filling more next (i + 1)
+    pub fill_next : i < places → {d : Node} {next : ℕ} → taken_at s at ≡ OneNode d next → {more : Net} → more ≡ laid_over now i (columns_of unlimited (d ∷ [])) → Filling more next (i + 1)
     unfolding nodes_of
-    fill-next h {d} {next} e q = record {
+    fill_next h {d} {next} e q = record {
       some = omega arith;
       rest = rw (add-one, q) (step h (OneNode d next) e);
     }
 
     -- the end: all nodes are laid
-    pub fill-last : i < places → taken_at s at ≡ Last → now ≡ laid_from lent 1 (places - 1) s 12
+    pub fill_last : i < places → taken_at s at ≡ Last → now ≡ laid_from lent 1 (places - 1) s 12
     unfolding nodes_of
-    fill-last h e = sym (step h Last e)
+    fill_last h e = sym (step h Last e)

@@ -60,7 +60,7 @@ module _ (l : Limits) (s : List ℕ) where
     pub rest : Whole ≡ fields_judged N (length s) i (fields_from (suc k) s at)
     pub tallied : Tallied N counts i
     pub long : length kinds ≡ most_places
-    pub kinds-are : (j : ℕ) → j < i → get_or kinds j 0 ≡ kind N j
+    pub kinds_are : (j : ℕ) → j < i → get_or kinds j 0 ≡ kind N j
 
   begin : Judging (replicate most_places 0) (replicate most_places 0) 12 1
   begin = record {
@@ -72,7 +72,7 @@ module _ (l : Limits) (s : List ℕ) where
     rest = refl;
     tallied = tallied_start N;
     long = length-replicate {A = ℕ} most_places 0;
-    kinds-are = λ j h. let z : j ≡ 0 = omega arith in rw z;
+    kinds_are = λ j h. let z : j ≡ 0 = omega arith in rw z;
   }
 
   pub start : {kinds : List ℕ} → kinds ≡ replicate most_places 0 → Judging kinds (replicate most_places 0) 12 1
@@ -95,9 +95,9 @@ module _ (l : Limits) (s : List ℕ) where
     )
 
     -- what is neither a node nor the end
-    pub stop-wrong : (r : Refusal) → taken_at s at ≡ Neither r → NotRead r ≡ tells (net_from s l)
+    pub stop_wrong : (r : Refusal) → taken_at s at ≡ Neither r → NotRead r ≡ tells (net_from s l)
     unfolding fields_judged
-    stop-wrong r e = told_unsound r (step (Neither r) e).0
+    stop_wrong r e = told_unsound r (step (Neither r) e).0
 
     -- the end
     module _ {r : Judged} (e : taken_at s at ≡ Last)
@@ -111,12 +111,12 @@ module _ (l : Limits) (s : List ℕ) where
       whole_is =
           let m : places N ≡ i = places_are l All ∙ sym all_seen in
           let same : childed_by (λ v. get_or kinds v 0) (λ v. get_or counts v 0) i ≡ childed N
-          = each_same (λ v. has_child v (get_or kinds v 0) (get_or counts v 0)) (λ v. has_child v (kind N v) (children N (i - 1) v)) i 0 (λ v lo hi. rw (j.kinds-are v (omega arith), j.tallied.each v))
+          = each_same (λ v. has_child v (get_or kinds v 0) (get_or counts v 0)) (λ v. has_child v (kind N v) (children N (i - 1) v)) i 0 (λ v lo hi. rw (j.kinds_are v (omega arith), j.tallied.each v))
           ∙ ap (λ (x : ℕ). childed_by (kind N) (children N (x - 1)) x) (sym m) in
           (step Last e).0 ∙ sym (is ∙ rw same)
 
-      pub stop-end : (x : Refusal) → r ≡ Unsound x → NotRead x ≡ tells (net_from s l)
-      stop-end x h = told_unsound x (whole_is ∙ h)
+      pub stop_end : (x : Refusal) → r ≡ Unsound x → NotRead x ≡ tells (net_from s l)
+      stop_end x h = told_unsound x (whole_is ∙ h)
 
       pub ends : r ≡ Sound → Read l i ≡ tells (net_from s l)
       ends h = told_sound i (whole_is ∙ h) all_seen
@@ -128,35 +128,35 @@ module _ (l : Limits) (s : List ℕ) where
       unfolding nodes_of
       head = heads i (step (OneNode d next) e).1
 
-      node-here : d ≡ node N i
-      node-here = sym (node_is l All i ∙ head.first)
+      node_here : d ≡ node N i
+      node_here = sym (node_is l All i ∙ head.first)
 
       -- the arrays say of the parent what the columns do
       admits : (place : ℕ) → admitted l d i (get_or kinds d.parent 0) (get_or counts d.parent 0) place ≡ admitted l d i (kind N d.parent) (get_or counts d.parent 0) place
-      admits place = admitted_as l d i (get_or kinds d.parent 0) (kind N d.parent) (get_or counts d.parent 0) place (j.kinds-are d.parent)
+      admits place = admitted_as l d i (get_or kinds d.parent 0) (kind N d.parent) (get_or counts d.parent 0) place (j.kinds_are d.parent)
 
-      judged-here : r ≡ node_judged N i at
-      judged-here = is ∙ admits at ∙ rw (node-here, j.tallied.each (parent N i))
+      judged_here : r ≡ node_judged N i at
+      judged_here = is ∙ admits at ∙ rw (node_here, j.tallied.each (parent N i))
 
       whole_here : Whole ≡ then_judge r (fields_judged N (length s) (suc i) (fields_from j.k s next))
       unfolding fields_judged
-      whole_here = (step (OneNode d next) e).0 ∙ rw (← judged-here)
+      whole_here = (step (OneNode d next) e).0 ∙ rw (← judged_here)
 
-      pub stop-node : (x : Refusal) → r ≡ Unsound x → NotRead x ≡ tells (net_from s l)
-      stop-node x h = told_unsound x (whole_here ∙ rw h)
+      pub stop_node : (x : Refusal) → r ≡ Unsound x → NotRead x ≡ tells (net_from s l)
+      stop_node x h = told_unsound x (whole_here ∙ rw h)
 
       module _ (sound : r ≡ Sound) where
         pub fits : Fits i d.parent (get_or kinds d.parent 0) (get_or counts d.parent 0)
         fits = parent_fits_lem i d.parent (get_or kinds d.parent 0) (get_or counts d.parent 0) (admitted_fits l d i (get_or kinds d.parent 0) (get_or counts d.parent 0) at (sym is ∙ sound)).1
 
-        kinds-next : (v : ℕ) → v < i + 1 → get_or (set kinds i d.kind) v 0 ≡ kind N v
-        kinds-next v h = elim (ℕ_discrete v i) [
-          | yes q ↦ rw (q, get_or-set_same kinds i d.kind 0 (omega (arith, j.long, fits.few))) (ap (λ (x : Node). x.kind) node-here)
-          | no q ↦ get_or-set_other kinds i v d.kind 0 q ∙ j.kinds-are v (omega arith)
+        kinds_next : (v : ℕ) → v < i + 1 → get_or (set kinds i d.kind) v 0 ≡ kind N v
+        kinds_next v h = elim (ℕ_discrete v i) [
+          | yes q ↦ rw (q, get_or-set_same kinds i d.kind 0 (omega (arith, j.long, fits.few))) (ap (λ (x : Node). x.kind) node_here)
+          | no q ↦ get_or-set_other kinds i v d.kind 0 q ∙ j.kinds_are v (omega arith)
         ]
 
-        pub next-node : {kinds' more : List ℕ} → kinds' ≡ set kinds i d.kind → more ≡ set counts d.parent (get_or counts d.parent 0 + 1) → Judging kinds' more next (i + 1)
-        next-node k q =
+        pub next_node : {kinds' more : List ℕ} → kinds' ≡ set kinds i d.kind → more ≡ set counts d.parent (get_or counts d.parent 0 + 1) → Judging kinds' more next (i + 1)
+        next_node k q =
             let f : suc (j.k - 1) ≡ j.k = omega (arith, j.fuel, fits.few) in
             let ok : Sound ≡ admitted l d i (kind N d.parent) (get_or counts d.parent 0) i = sym (sym (admits i) ∙ admitted_anywhere l d i (get_or kinds d.parent 0) (get_or counts d.parent 0) at i (sym is ∙ sound)) in
             record {
@@ -166,7 +166,7 @@ module _ (l : Limits) (s : List ℕ) where
               within = omega (arith, head.inside);
               left = rw (f, add-one) head.others;
               rest = rw (f, add-one) (whole_here ∙ rw sound);
-              tallied = tallied_after j.tallied node-here ok refl j.some (omega (arith, fits.few)) q;
+              tallied = tallied_after j.tallied node_here ok refl j.some (omega (arith, fits.few)) q;
               long = rw (k, length-set) j.long;
-              kinds-are = rw k kinds-next;
+              kinds_are = rw k kinds_next;
             }

@@ -54,8 +54,8 @@ module _ (nodes : ℕ → Node) (places : ℕ) where
       rest = omega (arith, c.rest, left_size i h);
     }
 
-    pub count-end : places ≤ i → size ≡ length (Left 1) + 12
-    count-end h = omega (arith, c.rest, ap length (left_end i h))
+    pub count_end : places ≤ i → size ≡ length (Left 1) + 12
+    count_end h = omega (arith, c.rest, ap length (left_end i h))
 
   -- ---- putting
   module _ (first : List ℕ) where
@@ -65,8 +65,8 @@ module _ (nodes : ℕ → Node) (places : ℕ) where
       pub room : at + length (Left i) ≤ length out
       pub rest : sets first 12 (Left 1) ≡ sets out at (Left i)
 
-    pub put-start : {at : ℕ} → at ≡ 12 → 12 + length (Left 1) ≤ length first → Putting first at 1
-    put-start e h = record { some = omega arith; long = refl; room = omega arith; rest = rw e }
+    pub put_start : {at : ℕ} → at ≡ 12 → 12 + length (Left 1) ≤ length first → Putting first at 1
+    put_start e h = record { some = omega arith; long = refl; room = omega arith; rest = rw e }
 
     module _ {out : List ℕ} {at i : ℕ} (p : Putting out at i) where
       pub room_next : i < places → {v : Value} → v ≡ field_of (nodes i) → at + length (bytes_of v) ≤ length out
@@ -86,11 +86,11 @@ module _ (nodes : ℕ → Node) (places : ℕ) where
                 ∙ rw (q, e, n);
           }
 
-      pub room-end : places ≤ i → at + length (bytes_of End) ≤ length out
-      room-end h = omega (arith, p.room, ap length (left_end i h))
+      pub room_end : places ≤ i → at + length (bytes_of End) ≤ length out
+      room_end h = omega (arith, p.room, ap length (left_end i h))
 
-      pub put-end : places ≤ i → {more : List ℕ} → more ≡ sets out at (bytes_of End) → more ≡ sets first 12 (Left 1)
-      put-end h q = q ∙ sym (p.rest ∙ ap (sets out at) (left_end i h))
+      pub put_end : places ≤ i → {more : List ℕ} → more ≡ sets out at (bytes_of End) → more ≡ sets first 12 (Left 1)
+      put_end h q = q ∙ sym (p.rest ∙ ap (sets out at) (left_end i h))
 
 -- the limits before them
 pub put_all : (out : List ℕ) (l : Limits) (bs : List ℕ) {first more : List ℕ} → first ≡ sets out 0 (bytes_of (LimitsField l)) → more ≡ sets first 12 bs → more ≡ sets out 0 (bytes_of (LimitsField l) ++ bs)

@@ -29,8 +29,8 @@ module _ (n : Net) (out : List ℕ) where
   wrote_refused x e = record { answer = rw e; buffer = rw e }
 
   module _ (e : judged n ≡ Sound) {size : ℕ} (h : size ≡ length (net_bytes n)) where
-    pub wrote-short : length out < size → WroteNet n out out (NotWritten (NoRoom size))
-    wrote-short lt = let t = lt-ltb (length out) (length (net_bytes n)) (omega arith) in record { answer = rw (e, t, h); buffer = rw (e, t) }
+    pub wrote_short : length out < size → WroteNet n out out (NotWritten (NoRoom size))
+    wrote_short lt = let t = lt-ltb (length out) (length (net_bytes n)) (omega arith) in record { answer = rw (e, t, h); buffer = rw (e, t) }
 
-    pub wrote-whole : size ≤ length out → {more : List ℕ} → more ≡ sets out 0 (net_bytes n) → WroteNet n out more (Written size)
-    wrote-whole le q = let t = le-ltb (length out) (length (net_bytes n)) (omega arith) in record { answer = rw (e, t, h); buffer = rw (e, t) q }
+    pub wrote_whole : size ≤ length out → {more : List ℕ} → more ≡ sets out 0 (net_bytes n) → WroteNet n out more (Written size)
+    wrote_whole le q = let t = le-ltb (length out) (length (net_bytes n)) (omega arith) in record { answer = rw (e, t, h); buffer = rw (e, t) q }

@@ -72,9 +72,9 @@ read_then_written s vs os out {vs'} {os'} {out'} {r} {w} by a zero b room =
     let (_, filled-vs, filled-os) = read_as is a most in
     let lv : length (map wire es) ≡ length es = length-map es wire in
     let lo : length (map offset es) ≡ length es = length-map es offset in
-    let back-vs : take (read_count r) vs' ≡ map wire es = stored vs (map wire es) filled-vs (n ∙ sym lv) (omega arith) in
-    let back-os : take (read_count r) os' ≡ map offset es = stored os (map offset es) filled-os (n ∙ sym lo) (omega arith) in
-    rw same (wrote_as (rw (back-vs, back-os) (columns_back es placed)) b (rw same at room))
+    let back_vs : take (read_count r) vs' ≡ map wire es = stored vs (map wire es) filled-vs (n ∙ sym lv) (omega arith) in
+    let back_os : take (read_count r) os' ≡ map offset es = stored os (map offset es) filled-os (n ∙ sym lo) (omega arith) in
+    rw same (wrote_as (rw (back_vs, back_os) (columns_back es placed)) b (rw same at room))
 
 pub written_then_read : (vs os out ws fs : List ℕ) {out' ws' fs' : List ℕ} {w : Wrote} {r : PlacementRead}
     → WroteAs (columns_of vs os) out out' w → wrote_number w ≡ 0

@@ -82,16 +82,16 @@ module _ (vs os out : List ℕ) where
   write_refused e = rw e (record { answered = refl; bytes = refl })
 
   module _ (sound : columns_judged vs os ≡ Sound) where
-    pub columns-level : (length os ≡ length vs) × (length vs ≤ most_entries)
-    columns-level = fits vs os (sound_columns vs os sound).0
+    pub columns_level : (length os ≡ length vs) × (length vs ≤ most_entries)
+    columns_level = fits vs os (sound_columns vs os sound).0
 
     size_is : 8 + 9 * length vs ≡ length (placement_bytes (entries vs os))
-    size_is = sym (length_bytes (entries vs os) ∙ ap (λ (k : ℕ). 8 + 9 * k) (length_entries vs os columns-level.0))
+    size_is = sym (length_bytes (entries vs os) ∙ ap (λ (k : ℕ). 8 + 9 * k) (length_entries vs os columns_level.0))
 
-    pub write-short : length out < 8 + 9 * length vs → WroteAs (columns_of vs os) out out (NotWritten (NoRoom (8 + 9 * length vs)))
+    pub write_short : length out < 8 + 9 * length vs → WroteAs (columns_of vs os) out out (NotWritten (NoRoom (8 + 9 * length vs)))
     unfolding columns_of
-    write-short h = let t = too_little (placement_bytes (entries vs os)) out size_is h in rw sound (record { answered = t.0; bytes = t.1 })
+    write_short h = let t = too_little (placement_bytes (entries vs os)) out size_is h in rw sound (record { answered = t.0; bytes = t.1 })
 
-    pub write-whole : 8 + 9 * length vs ≤ length out → {out' : List ℕ} → out' ≡ sets out 0 (placement_bytes (entries vs os)) → WroteAs (columns_of vs os) out out' (Bytes (8 + 9 * length vs))
+    pub write_whole : 8 + 9 * length vs ≤ length out → {out' : List ℕ} → out' ≡ sets out 0 (placement_bytes (entries vs os)) → WroteAs (columns_of vs os) out out' (Bytes (8 + 9 * length vs))
     unfolding columns_of
-    write-whole h e = let t = enough (placement_bytes (entries vs os)) out size_is h e in rw sound (record { answered = t.0; bytes = t.1 })
+    write_whole h e = let t = enough (placement_bytes (entries vs os)) out size_is h e in rw sound (record { answered = t.0; bytes = t.1 })

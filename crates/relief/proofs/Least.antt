@@ -22,10 +22,10 @@ use Rattle.frontier.proofs.Lower.{below_fits}
 use Rattle.frontier.proofs.Hangs.{Hangs, hangs, tree_hangs, every_wire}
 use Rattle.frontier.proofs.LeastCount.{legal_settles, count_is_length, placed_is_legal, placed_count}
 use Rattle.relief.specs.Pieces.{lead_of}
-use Rattle.relief.specs.Marks.{Relieved, Marks, hands, whole_at, added_at, Marked, Stuck, pin-over, wires-over}
+use Rattle.relief.specs.Marks.{Relieved, Marks, hands, whole_at, added_at, Marked, Stuck, pin_over, wires_over}
 use Rattle.relief.proofs.Pieces.{whole_joins}
 use Rattle.relief.proofs.Runs.{placed_own}
-use Rattle.relief.proofs.Lower.{later, node_lower, under-lower}
+use Rattle.relief.proofs.Lower.{later, node_lower, under_lower}
 use Rattle.relief.proofs.Reach.{reached}
 
 -- ---- wire by wire
@@ -90,13 +90,13 @@ module _ {n : Net} (s : SoundNet n) (buffers : n.limits.repeater ≡ 0) (g : Lis
     fewest a c =
         let O : ℕ → List ℕ = offsets_on c.whole in
         let t = legal_settles s c.whole c.legal in
-        let u = under-lower τ eq pos s G (offsets_on a) O (λ i. joins_on i c.joins) m (tree n) 0 (tree_hangs s) (later mk (omega arith)) source.x source.each t.good t.fits in
+        let u = under_lower τ eq pos s G (offsets_on a) O (λ i. joins_on i c.joins) m (tree n) 0 (tree_hangs s) (later mk (omega arith)) source.x source.each t.good t.fits in
         let w = node_lower τ eq pos source.x (m.load 0) (count (tree n) (plan_of (whole_at τ n G m) (tree n))) (sum m.on (tree n)) (count (tree n) (plan_of O (tree n))) (load τ (tree n) (plan_of O (tree n))) u.s source.small source.tight t.fits u.few
         (subst (λ (y : ℕ). y + sum m.on (tree n) * source.x ≤ load τ (tree n) (plan_of O (tree n)) + u.s * source.x) source.load u.less) in
         omega (arith, w.few, placed_count s (whole_at τ n G m), count_is_length s c.whole c.legal.stands, joins_length c.joins)
 
-    pub least-added : LeastAdded n g (length (placed n (added_at τ n G m)))
-    least-added = record { entries = placed n (added_at τ n G m); completes = completed; count = refl; fewest = λ a c. omega (arith, fewest a c, joins_length joined) }
+    pub least_added : LeastAdded n g (length (placed n (added_at τ n G m)))
+    least_added = record { entries = placed n (added_at τ n G m); completes = completed; count = refl; fewest = λ a c. omega (arith, fewest a c, joins_length joined) }
 
   -- ---- none
   module _ (O : ℕ → List ℕ) where
@@ -124,12 +124,12 @@ module _ {n : Net} (s : SoundNet n) (buffers : n.limits.repeater ≡ 0) (g : Lis
 
   pub none_completes : (v : ℕ) → v < places n → Marked τ n lead m (suc v) → Stuck τ n lead m v → NoneCompletes n g
   unfolding FitsAt
-  none_completes v h mk (pin-over k o) a c =
+  none_completes v h mk (pin_over k o) a c =
       let t = legal_settles s c.whole c.legal in
       omega (arith, (fit_at (offsets_on c.whole) t.good t.fits v h).0 k)
-  none_completes v h mk (wires-over k e o) a c =
+  none_completes v h mk (wires_over k e o) a c =
       let O : ℕ → List ℕ = offsets_on c.whole in
       let t = legal_settles s c.whole c.legal in
       let (good, fits) = (fit_at O t.good t.fits v h).1 k in
-      let u = under-lower τ eq pos s G (offsets_on a) O (λ i. joins_on i c.joins) m (under n v) v (hangs s (places n - suc v) v (omega arith)) mk 0 e good fits in
+      let u = under_lower τ eq pos s G (offsets_on a) O (λ i. joins_on i c.joins) m (under n v) v (hangs s (places n - suc v) v (omega arith)) mk 0 e good fits in
       omega (arith, u.less)

@@ -86,29 +86,29 @@ module _ (τ : Cell) (eq : τ.cu ≡ τ.cb + τ.D) (pos : 1 ≤ τ.D) where
         (spent x (hands τ n lead m i) (N + fewest τ eq pos (wire n i) 0 (m.load i) (G i)) (c + length (O i)) (top_w τ (wire n i) 0 l (O i)) d
         (wire_lower τ eq pos (wire n i) N (m.load i) c l (G i) (O i) le (keeps i) g' h') (wire_thick τ eq pos (wire n i) l c (O i) th))
 
-    pub under-lower : (f : Hanging) (v : ℕ) → Hangs n v f → Marked τ n lead m (suc v) → (x : ℕ) → Each (λ j. Divides τ x (hands τ n lead m j) (m.on j)) f → Good τ f (plan_of O f) → load τ f (plan_of O f) ≤ τ.cu → Under x f
-    under-lower none v h mk x d g l = record { s = 0; few = omega arith; less = omega arith }
-    under-lower (sink i w c z r) v h mk x d g l =
+    pub under_lower : (f : Hanging) (v : ℕ) → Hangs n v f → Marked τ n lead m (suc v) → (x : ℕ) → Each (λ j. Divides τ x (hands τ n lead m j) (m.on j)) f → Good τ f (plan_of O f) → load τ f (plan_of O f) ≤ τ.cu → Under x f
+    under_lower none v h mk x d g l = record { s = 0; few = omega arith; less = omega arith }
+    under_lower (sink i w c z r) v h mk x d g l =
         let lo : v < i = let q = h.0.up in omega (arith, sound.lower i h.0.above h.0.within) in
         let e : m.load i ≡ c = mk.sinks i lo h.0.within h.0.end ∙ h.1 in
         let a = one x i w 0 0 c h.0.size d.0 (record { few = omega arith; light = omega arith }) (λ u. absurd (omega arith)) g.0 (omega arith) in
-        let b = under-lower r v h.3 mk x d.1 g.1 (omega arith) in
+        let b = under_lower r v h.3 mk x d.1 g.1 (omega arith) in
         record {
           s = a.s + b.s;
           few = omega (arith, a.few, b.few, whole_many τ eq pos (wire n i) (m.on i) 0 (m.load i) (G i));
           less = both (out τ n lead m i) (sum (out τ n lead m) r) (m.on i) (sum m.on r) (top_w τ w 0 c (O i)) (load τ r (plan_of O r)) a.s b.s x a.less b.less;
         }
-    under-lower (branch i w f r) v h mk x d g l =
+    under_lower (branch i w f r) v h mk x d g l =
         let lo : v < i = let q = h.0.up in omega (arith, sound.lower i h.0.above h.0.within) in
         let L : ℕ = load τ f (plan_of O f) in
         let fits : L ≤ τ.cu = below_fits τ eq pos w L (O i) g.0 (omega arith) in
         let rel : Relieved τ (hands τ n lead m) m.on f (m.load i) = subst (λ (y : Hanging). Relieved τ (hands τ n lead m) m.on y (m.load i)) h.1 (mk.nodes i lo h.0.within h.0.end) in
-        let below = under-lower f i h.2 (later mk (omega arith)) rel.x rel.each g.1 fits in
+        let below = under_lower f i h.2 (later mk (omega arith)) rel.x rel.each g.1 fits in
         let le : NoWorse τ (count f (plan_of W f)) (m.load i) (count f (plan_of O f)) L =
         node_lower rel.x (m.load i) (count f (plan_of W f)) (sum m.on f) (count f (plan_of O f)) L below.s rel.small rel.tight fits below.few
         (subst (λ (y : ℕ). y + sum m.on f * rel.x ≤ L + below.s * rel.x) rel.load below.less) in
         let a = one x i w (count f (plan_of W f)) (count f (plan_of O f)) L h.0.size d.0 le (thick τ eq pos f (plan_of O f)) g.0 (omega arith) in
-        let b = under-lower r v h.3 mk x d.1 g.2 (omega arith) in
+        let b = under_lower r v h.3 mk x d.1 g.2 (omega arith) in
         record {
           s = a.s + b.s;
           few = omega (arith, a.few, b.few, whole_many τ eq pos (wire n i) (m.on i) 0 (m.load i) (G i));

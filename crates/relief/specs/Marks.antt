@@ -54,5 +54,5 @@ module _ (τ : Cell) (n : Net) (lead : ℕ → ℕ) (m : Marks) where
 
   -- node v cannot be brought within the limit: a sink's pin is over it, or what hangs there is with every wire topped that is heavier than the pin
   pub data Stuck (v : ℕ) : Type 0 where
-    pin-over : kind n v ≡ 1 → τ.cu < pin n v → Stuck v
-    wires-over : kind n v ≡ 0 → Each (λ j. Divides τ 0 (hands j) (m.on j)) (under n v) → τ.cu < sum out (under n v) → Stuck v
+    pin_over : kind n v ≡ 1 → τ.cu < pin n v → Stuck v
+    wires_over : kind n v ≡ 0 → Each (λ j. Divides τ 0 (hands j) (m.on j)) (under n v) → τ.cu < sum out (under n v) → Stuck v

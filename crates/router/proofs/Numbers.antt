@@ -44,8 +44,8 @@ module _ (net placement : List ℕ) (bytes : AreBytes net) where
     fits : PlacementFits (map wire es) (map offset es)
     fits = record { even = length-map es offset ∙ sym (length-map es wire); few = rw (length-map es wire) (few_entries placement es b) }
 
-    on-net : (k : ℕ) → (judged_number (checked n (map wire es) (map offset es)) ≡ k) ↔ PlacementGives n es k
-    on-net k = (λ e. says (numbers.0 e), λ g. numbers.1 (of_placement sound fits (rw (entries_back es) g)))
+    on_net_lem : (k : ℕ) → (judged_number (checked n (map wire es) (map offset es)) ≡ k) ↔ PlacementGives n es k
+    on_net_lem k = (λ e. says (numbers.0 e), λ g. numbers.1 (of_placement sound fits (rw (entries_back es) g)))
       where
         numbers : (judged_number (checked n (map wire es) (map offset es)) ≡ k) ↔ CheckGives n (map wire es) (map offset es) k
         numbers = checked_numbers n (map wire es) (map offset es) k
@@ -58,18 +58,18 @@ module _ (net placement : List ℕ) (bytes : AreBytes net) where
   given : RouteGives net placement (from_net (net_file.net_of net) (placement_file.placement_of placement))
   given = by_net (net_file.net_of net) refl
     where
-      by-placement : (n : Net) → net_file.net_of net ≡ net_file.read n → (o : placement_file.Outcome) → placement_file.placement_of placement ≡ o → RouteGives net placement (on_net n o)
-      by-placement n a (placement_file.refused x) b = of_placement_file a b refl
-      by-placement n a (placement_file.placement es) b = of_both a b ((on-net a b (judged_number (checked n (map wire es) (map offset es)))).0 refl)
+      by_placement : (n : Net) → net_file.net_of net ≡ net_file.read n → (o : placement_file.Outcome) → placement_file.placement_of placement ≡ o → RouteGives net placement (on_net n o)
+      by_placement n a (placement_file.refused x) b = of_placement_file a b refl
+      by_placement n a (placement_file.placement es) b = of_both a b ((on_net_lem a b (judged_number (checked n (map wire es) (map offset es)))).0 refl)
 
       by_net : (o : net_file.Outcome) → net_file.net_of net ≡ o → RouteGives net placement (from_net o (placement_file.placement_of placement))
       by_net (net_file.refused x) a = of_net_file a refl
-      by_net (net_file.read n) a = by-placement n a (placement_file.placement_of placement) refl
+      by_net (net_file.read n) a = by_placement n a (placement_file.placement_of placement) refl
 
   alone : (k : ℕ) → RouteGives net placement k → from_net (net_file.net_of net) (placement_file.placement_of placement) ≡ k
   alone k (of_net_file a e) = rw a (sym e)
   alone k (of_placement_file a b e) = rw (a, b) (sym e)
-  alone k (of_both a b g) = rw (a, b) ((on-net a b k).1 g)
+  alone k (of_both a b g) = rw (a, b) ((on_net_lem a b k).1 g)
 
   pub mustorgyel_check_numbers : (r : ℕ) → r ≡ routed net placement → (k : ℕ) → (r ≡ k) ↔ RouteGives net placement k
   unfolding routed

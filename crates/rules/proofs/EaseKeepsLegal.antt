@@ -74,51 +74,51 @@ module _ {n m : Net} (ease : Eases n m) where
 
   -- ---- the loads
   module _ (offs offs' : ℕ → List ℕ) (rising : (i : ℕ) → Rising (wire n i) 0 (offs i)) (cuts : (i : ℕ) → offs' i ≡ cut_to (wire m i) (offs i)) where
-    wire-less : (i b b' : ℕ) → b' ≤ b → hands_up m.limits.pin (wire m i) 0 b' (offs' i) ≤ hands_up n.limits.pin (wire n i) 0 b (offs i)
-    wire-less i b b' h =
+    wire_less : (i b b' : ℕ) → b' ≤ b → hands_up m.limits.pin (wire m i) 0 b' (offs' i) ≤ hands_up n.limits.pin (wire n i) 0 b (offs i)
+    wire_less i b b' h =
         let z : min 0 (wire m i) ≡ 0 = omega arith in
         rw (cuts i) (rw z at (hands_up_less (ease.wires i) ease.pin 0 b b' (offs i) h (rising i)))
 
-    hung-less : (i : ℕ) (f f' r r' : Hanging) → handed_by m.limits.pin offs' f' ≤ handed_by n.limits.pin offs f → handed_by m.limits.pin offs' r' ≤ handed_by n.limits.pin offs r
+    hung_less : (i : ℕ) (f f' r r' : Hanging) → handed_by m.limits.pin offs' f' ≤ handed_by n.limits.pin offs f → handed_by m.limits.pin offs' r' ≤ handed_by n.limits.pin offs r
         → handed_by m.limits.pin offs' (hung m i f' r') ≤ handed_by n.limits.pin offs (hung n i f r)
     unfolding handed_by
-    hung-less i f f' r r' below rest = elim (ℕ_discrete (kind n i) 1) [
-      | yes k ↦ rw (same_kind i, eq-eqb (kind n i) 1 k) (omega (arith, wire-less i (pin n i) (pin m i) (ease.pins i)))
-      | no k ↦ rw (same_kind i, ne_eqb (kind n i) 1 k) (omega (arith, wire-less i (handed_by n.limits.pin offs f) (handed_by m.limits.pin offs' f') below))
+    hung_less i f f' r r' below rest = elim (ℕ_discrete (kind n i) 1) [
+      | yes k ↦ rw (same_kind i, eq-eqb (kind n i) 1 k) (omega (arith, wire_less i (pin n i) (pin m i) (ease.pins i)))
+      | no k ↦ rw (same_kind i, ne_eqb (kind n i) 1 k) (omega (arith, wire_less i (handed_by n.limits.pin offs f) (handed_by m.limits.pin offs' f') below))
     ]
 
-    hanging-less : (l v : ℕ) → handed_by m.limits.pin offs' (hanging m l v) ≤ handed_by n.limits.pin offs (hanging n l v)
+    hanging_less : (l v : ℕ) → handed_by m.limits.pin offs' (hanging m l v) ≤ handed_by n.limits.pin offs (hanging n l v)
     unfolding hanging handed_by
-    hanging-less zero v = omega arith
-    hanging-less (suc l) v =
+    hanging_less zero v = omega arith
+    hanging_less (suc l) v =
         let i : ℕ = places n - suc l in
         elim (ℕ_discrete (parent n i) v) [
-          | yes q ↦ rw (same_places, same_parent i, eq-eqb (parent n i) v q) (hung-less i (hanging n l i) (hanging m l i) (hanging n l v) (hanging m l v) (hanging-less l i) (hanging-less l v))
-          | no q ↦ rw (same_places, same_parent i, ne_eqb (parent n i) v q) (hanging-less l v)
+          | yes q ↦ rw (same_places, same_parent i, eq-eqb (parent n i) v q) (hung_less i (hanging n l i) (hanging m l i) (hanging n l v) (hanging m l v) (hanging_less l i) (hanging_less l v))
+          | no q ↦ rw (same_places, same_parent i, ne_eqb (parent n i) v q) (hanging_less l v)
         ]
 
     below_less : (v : ℕ) → load_below m offs' v ≤ load_below n offs v
     unfolding load_below
     below_less v = elim (ℕ_discrete (kind n v) 1) [
       | yes k ↦ rw (same_kind v, eq-eqb (kind n v) 1 k) (ease.pins v)
-      | no k ↦ rw (same_kind v, ne_eqb (kind n v) 1 k, same_places) (hanging-less (places n - suc v) v)
+      | no k ↦ rw (same_kind v, ne_eqb (kind n v) 1 k, same_places) (hanging_less (places n - suc v) v)
     ]
 
-    driven-less : (i : ℕ) → Each (λ load. load ≤ n.limits.limit) (driven_on n offs i) → Each (λ load. load ≤ m.limits.limit) (driven_on m offs' i)
+    driven_less : (i : ℕ) → Each (λ load. load ≤ n.limits.limit) (driven_on n offs i) → Each (λ load. load ≤ m.limits.limit) (driven_on m offs' i)
     unfolding driven_on
-    driven-less i e =
+    driven_less i e =
         let z : min 0 (wire m i) ≡ 0 = omega arith in
         rw (cuts i) (rw z at (drives_less (ease.wires i) ease.pin n.limits.limit m.limits.limit 0 (load_below n offs i) (load_below m offs' i) (offs i) ease.limit (below_less i) (rising i) e))
 
-    loads-less : Each (λ load. load ≤ n.limits.limit) (driven n offs ++ (load_below n offs 0 ∷ [])) → Each (λ load. load ≤ m.limits.limit) (driven m offs' ++ (load_below m offs' 0 ∷ []))
+    loads_less : Each (λ load. load ≤ n.limits.limit) (driven n offs ++ (load_below n offs 0 ∷ [])) → Each (λ load. load ≤ m.limits.limit) (driven m offs' ++ (load_below m offs' 0 ∷ []))
     unfolding driven
-    loads-less e =
+    loads_less e =
         let Fits : ℕ → Type 0 = λ load. load ≤ n.limits.limit in
         let Fits' : ℕ → Type 0 = λ load. load ≤ m.limits.limit in
         let all : Each Fits (joined (driven_on n offs) (places n - 1) 1) = each_first Fits (joined (driven_on n offs) (places n - 1) 1) (load_below n offs 0 ∷ []) e in
         let source : Each Fits (load_below n offs 0 ∷ []) = each_last Fits (joined (driven_on n offs) (places n - 1) 1) (load_below n offs 0 ∷ []) e in
         each_append Fits' (joined (driven_on m offs') (places m - 1) 1) (load_below m offs' 0 ∷ [])
-        (each_joined Fits' (driven_on m offs') (places m - 1) 1 (λ j lo hi. driven-less j (joined_each Fits (driven_on n offs) (places n - 1) 1 all j lo (omega (arith, same_places)))))
+        (each_joined Fits' (driven_on m offs') (places m - 1) 1 (λ j lo hi. driven_less j (joined_each Fits (driven_on n offs) (places n - 1) 1 all j lo (omega (arith, same_places)))))
         (le_trans (below_less 0) (le_trans source.0 ease.limit), tt)
 
     -- ---- the senses
@@ -127,14 +127,14 @@ module _ {n m : Net} (ease : Eases n m) where
     same_way zero i = refl
     same_way (suc k) i = rw (same_parent i, same_way k (parent n i), cuts i, length-map (offs i) (λ o. min o (wire m i)))
 
-    same-sense : (i : ℕ) → sense m offs' i ≡ sense n offs i
+    same_sense : (i : ℕ) → sense m offs' i ≡ sense n offs i
     unfolding inverters
-    same-sense i = rw (same_way i i, same_polarity i, ease.repeater)
+    same_sense i = rw (same_way i i, same_polarity i, ease.repeater)
 
     one_sense_lem : OneSense n offs → OneSense m offs'
     one_sense_lem o = record {
       one = o.one;
-      same = λ i s. same-sense i ∙ o.same i (record { node = s.node; within = omega (arith, s.within, same_places); sink = sym (same_kind i) ∙ s.sink });
+      same = λ i s. same_sense i ∙ o.same i (record { node = s.node; within = omega (arith, s.within, same_places); sink = sym (same_kind i) ∙ s.sink });
     }
 
   -- any legal placement of the first net, each offset cut to the new wire, is legal on the second
@@ -143,7 +143,7 @@ module _ {n m : Net} (ease : Eases n m) where
       let rising = in_order_rises n p l.stands in
       record {
         stands = cut_start p l.stands;
-        loads = loads-less (offsets_on p) (offsets_on (carried m p)) rising (cut_offsets m p) l.loads;
+        loads = loads_less (offsets_on p) (offsets_on (carried m p)) rising (cut_offsets m p) l.loads;
         parity = one_sense_lem (offsets_on p) (offsets_on (carried m p)) rising (cut_offsets m p) l.parity;
       }
 

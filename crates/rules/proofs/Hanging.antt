@@ -39,7 +39,7 @@ unfolding hanging
 sink_bare s zero v h k = refl
 sink_bare {n} s (suc l) v h k =
     let i : ℕ = places n - suc l in
-    rw (ne_eqb (parent n i) v (λ e. not-one (kind n (parent n i)) (s.no_sink i (omega arith) (omega arith)) (rw e k))) (sink_bare s l v (omega arith) k)
+    rw (ne_eqb (parent n i) v (λ e. not_one (kind n (parent n i)) (s.no_sink i (omega arith) (omega arith)) (rw e k))) (sink_bare s l v (omega arith) k)
   where
-    not-one : (x : ℕ) → x ≡ 0 → x ≡ 1 → ⊥
-    not-one x a b = omega arith
+    not_one : (x : ℕ) → x ≡ 0 → x ≡ 1 → ⊥
+    not_one x a b = omega arith

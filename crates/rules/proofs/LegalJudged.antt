@@ -130,10 +130,10 @@ module _ (n : Net) (offs : ℕ → List ℕ) where
   }
 
   pub one_sense_lem : OneSense n offs → one_sense n offs ≡ Sound
-  one_sense_lem o = each_sound (has_sense n offs (sense n offs lowest)) (places n - 1) 1 (λ j lo hi. sense_sound (sense n offs lowest) j (as-lowest j lo hi))
+  one_sense_lem o = each_sound (has_sense n offs (sense n offs lowest)) (places n - 1) 1 (λ j lo hi. sense_sound (sense n offs lowest) j (as_lowest j lo hi))
     where
-      as-lowest : (j : ℕ) → 1 ≤ j → j < 1 + (places n - 1) → kind n j ≡ 1 → sense n offs j ≡ sense n offs lowest
-      as-lowest j lo hi z =
+      as_lowest : (j : ℕ) → 1 ≤ j → j < 1 + (places n - 1) → kind n j ≡ 1 → sense n offs j ≡ sense n offs lowest
+      as_lowest j lo hi z =
           let (a, b, c) = first_is_sink (places n - 1) 1 j lo hi z in
           o.same j (record { node = lo; within = omega arith; sink = z }) ∙ sym (o.same lowest (record { node = a; within = omega arith; sink = c }))
 

@@ -62,16 +62,16 @@ module _ (n : Net) (p : List Entry) where
   unfolding number
   given = by_order (tested order_test)
     where
-      by-senses : InOrder n start p → Within n p → Tested senses (OneSense n (offsets_on p)) 12 → PlacementGives n p (judged_number senses)
-      by-senses o w (held e s) = rw e (legal refl (record { stands = o; loads = w; parity = s }))
-      by-senses o w (failed e c not) = rw e (wrong_parity c o w not)
+      by_senses : InOrder n start p → Within n p → Tested senses (OneSense n (offsets_on p)) 12 → PlacementGives n p (judged_number senses)
+      by_senses o w (held e s) = rw e (legal refl (record { stands = o; loads = w; parity = s }))
+      by_senses o w (failed e c not) = rw e (wrong_parity c o w not)
 
-      by-loads : InOrder n start p → Tested loads (Within n p) 11 → PlacementGives n p (judged_number (then_judge loads senses))
-      by-loads o (held e w) = rw e (by-senses o w (tested senses_test))
-      by-loads o (failed e c not) = rw e (overloaded c o not)
+      by_loads : InOrder n start p → Tested loads (Within n p) 11 → PlacementGives n p (judged_number (then_judge loads senses))
+      by_loads o (held e w) = rw e (by_senses o w (tested senses_test))
+      by_loads o (failed e c not) = rw e (overloaded c o not)
 
       by_order : Tested (placed_from n start 0 p) (InOrder n start p) 10 → PlacementGives n p (judged_number (then_judge (placed_from n start 0 p) (then_judge loads senses)))
-      by_order (held e o) = rw e (by-loads o (tested loads_test))
+      by_order (held e o) = rw e (by_loads o (tested loads_test))
       by_order (failed e c not) = rw e (misplaced c not)
 
   alone : (k : ℕ) → PlacementGives n p k → number ≡ k

@@ -33,13 +33,13 @@ pub record InRange (l : Limits) (d : Node) : Type 0 where
 pub in_range : (l : Limits) (d : Node) → node_in_range l d ≡ true → InRange l d
 in_range l d e = let (w, end) = both_met (leb d.wire most_wire) (end_in_range l d) e in by_kind (leb-true d.wire most_wire w) end
   where
-    at-sink : d.kind ≡ 1 → d.wire ≤ most_wire → both (leb d.pin most_pin) (leb d.polarity l.repeater) ≡ true → InRange l d
-    at-sink k w x =
+    at_sink : d.kind ≡ 1 → d.wire ≤ most_wire → both (leb d.pin most_pin) (leb d.polarity l.repeater) ≡ true → InRange l d
+    at_sink k w x =
         let (p, q) = both_met (leb d.pin most_pin) (leb d.polarity l.repeater) x in
         record { wire = w; kind = omega arith; pin = leb-true d.pin most_pin p; polarity = leb-true d.polarity l.repeater q }
 
-    at-branch : d.wire ≤ most_wire → both (eqb d.kind 0) (both (eqb d.pin 0) (eqb d.polarity 0)) ≡ true → InRange l d
-    at-branch w x =
+    at_branch : d.wire ≤ most_wire → both (eqb d.kind 0) (both (eqb d.pin 0) (eqb d.polarity 0)) ≡ true → InRange l d
+    at_branch w x =
         let (k, rest) = both_met (eqb d.kind 0) (both (eqb d.pin 0) (eqb d.polarity 0)) x in
         let (p, q) = both_met (eqb d.pin 0) (eqb d.polarity 0) rest in
         record {
@@ -51,8 +51,8 @@ in_range l d e = let (w, end) = both_met (leb d.wire most_wire) (end_in_range l 
 
     by_kind : d.wire ≤ most_wire → end_in_range l d ≡ true → InRange l d
     by_kind w x = elim (ℕ_discrete d.kind 1) [
-      | yes k ↦ at-sink k w (rw (eq-eqb d.kind 1 k) at x)
-      | no k ↦ at-branch w (rw (ne_eqb d.kind 1 k) at x)
+      | yes k ↦ at_sink k w (rw (eq-eqb d.kind 1 k) at x)
+      | no k ↦ at_branch w (rw (ne_eqb d.kind 1 k) at x)
     ]
 
 -- what is asked of a parent
@@ -125,26 +125,26 @@ module _ (n : Net) (fit : columns_fit n ≡ true) (limits : limits_in_range n.li
       let (k₀, s₃) = both_met (eqb (kind n 0) 0) _ s₂ in
       let (c₀, q₀) = both_met (eqb (pin n 0) 0) (eqb (polarity n 0) 0) s₃ in
       let one : 1 ≤ places n = ltb-true 0 (places n) some in
-      let long-w : length n.wires ≡ places n = eqb-true _ _ w in
-      let long-k : length n.kinds ≡ places n = eqb-true _ _ k in
-      let long-p : length n.pins ≡ places n = eqb-true _ _ p in
-      let long-q : length n.polarities ≡ places n = eqb-true _ _ q in
+      let long_w : length n.wires ≡ places n = eqb-true _ _ w in
+      let long_k : length n.kinds ≡ places n = eqb-true _ _ k in
+      let long_p : length n.pins ≡ places n = eqb-true _ _ p in
+      let long_q : length n.polarities ≡ places n = eqb-true _ _ q in
       let at : (i : ℕ) → 1 ≤ i → i < places n → NodeSound n i = λ i lo hi. node_sound n i i (each_met (λ j. node_judged n j j) (places n - 1) 1 nodes i lo (omega arith)) in
       record {
         some = one;
         few = leb-true (places n) most_places few;
-        wires_long = long-w;
-        kinds_long = long-k;
-        pins_long = long-p;
-        polarities_long = long-q;
+        wires_long = long_w;
+        kinds_long = long_k;
+        pins_long = long_p;
+        polarities_long = long_q;
         limit_some = ltb-true 0 n.limits.limit a;
         limit_most = leb-true n.limits.limit most_limit b;
         half = ltb-true (2 * n.limits.pin) n.limits.limit c;
         repeater_most = leb-true n.limits.repeater 1 d;
-        wire_most = everywhere n.wires (places n) most_wire long-w (eqb-true (wire n 0) 0 w₀) (λ i lo hi. (at i lo hi).range.wire);
-        kind_most = everywhere n.kinds (places n) 1 long-k (eqb-true (kind n 0) 0 k₀) (λ i lo hi. (at i lo hi).range.kind);
-        pin_most = everywhere n.pins (places n) most_pin long-p (eqb-true (pin n 0) 0 c₀) (λ i lo hi. (at i lo hi).range.pin);
-        polarity_most = everywhere n.polarities (places n) n.limits.repeater long-q (eqb-true (polarity n 0) 0 q₀) (λ i lo hi. (at i lo hi).range.polarity);
+        wire_most = everywhere n.wires (places n) most_wire long_w (eqb-true (wire n 0) 0 w₀) (λ i lo hi. (at i lo hi).range.wire);
+        kind_most = everywhere n.kinds (places n) 1 long_k (eqb-true (kind n 0) 0 k₀) (λ i lo hi. (at i lo hi).range.kind);
+        pin_most = everywhere n.pins (places n) most_pin long_p (eqb-true (pin n 0) 0 c₀) (λ i lo hi. (at i lo hi).range.pin);
+        polarity_most = everywhere n.polarities (places n) n.limits.repeater long_q (eqb-true (polarity n 0) 0 q₀) (λ i lo hi. (at i lo hi).range.polarity);
         source = eqb-true (kind n 0) 0 k₀;
         lower = λ i lo hi. (at i lo hi).fits.lower;
         no_sink = λ i lo hi. (at i lo hi).fits.no_sink;

@@ -86,8 +86,8 @@ module _ {n : Net} (v : Level n) {r : Bool} (nodes : Every (node_fits n) 1 (plac
   lower_met i lo hi = (node_fits_lem n i (nodes.met met i lo hi)).1
 
   module _ {counts : List ℕ} (t : Tallied n counts (places n)) {y : Bool} (fits : Every (λ j. count_fits (kind n j) (get_or counts j 0)) 0 (length n.kinds) y) (fit : y ≡ true) where
-    parent-met : (i : ℕ) → 1 ≤ i → i < places n → parent_fits i (parent n i) (kind n (parent n i)) (children n (i - 1) (parent n i)) ≡ true
-    parent-met i lo hi =
+    parent_met : (i : ℕ) → 1 ≤ i → i < places n → parent_fits i (parent n i) (kind n (parent n i)) (children n (i - 1) (parent n i)) ≡ true
+    parent_met i lo hi =
         let p = parent n i in
         let lower : p < i = lower_met i lo hi in
         let one : children n (i - 1) p < children n (places n - 1) p = child_counted n (places n - 1) i lo (omega arith) in
@@ -96,14 +96,14 @@ module _ {n : Net} (v : Level n) {r : Bool} (nodes : Every (node_fits n) 1 (plac
         both_true (le-leb i most_nodes (omega arith))
         (both_true (lt-ltb p i lower) (both_true (eq-eqb (kind n p) 0 (some_fit (kind n p) (get_or counts p 0) at (omega (arith, t.each p)))) (lt-ltb (children n (i - 1) p) most_children (omega (arith, t.each p)))))
 
-    nodes-met : nodes_judged n ≡ Sound
-    nodes-met = each_sound _ _ 1 (λ i lo hi. let h : i < places n = omega arith in then_both (unless_true (node_fits_lem n i (nodes.met met i lo h)).0 _) (unless_true (parent-met i lo h) _))
+    nodes_met : nodes_judged n ≡ Sound
+    nodes_met = each_sound _ _ 1 (λ i lo hi. let h : i < places n = omega arith in then_both (unless_true (node_fits_lem n i (nodes.met met i lo h)).0 _) (unless_true (parent_met i lo h) _))
 
-    children-met : childed n ≡ Sound
-    children-met = sym (childed_is t) ∙ each_sound _ _ 0 (λ j lo hi. child_fit (kind n j) (get_or counts j 0) (fits.met fit j lo (omega arith)) j)
+    children_met : childed n ≡ Sound
+    children_met = sym (childed_is t) ∙ each_sound _ _ 0 (λ j lo hi. child_fit (kind n j) (get_or counts j 0) (fits.met fit j lo (omega arith)) j)
 
   pub passed : {counts : List ℕ} → Tallied n counts (places n) → {y : Bool} → Every (λ j. count_fits (kind n j) (get_or counts j 0)) 0 (length n.kinds) y → Passed n y
-  passed t fits = record { nodes = λ fit. nodes-met t fits fit; children = λ fit. children-met t fits fit }
+  passed t fits = record { nodes = λ fit. nodes_met t fits fit; children = λ fit. children_met t fits fit }
 
 pub not_passed : (n : Net) → Passed n false
 not_passed n = record { nodes = λ e. never (sym e); children = λ e. never (sym e) }

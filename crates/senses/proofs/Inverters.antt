@@ -69,8 +69,8 @@ module _ {n : Net} (s : SoundNet n) (offs : ℕ → List ℕ) where
     pub own_most : get_or odd i 0 ≤ 1
     own_most = omega (arith, own.at i (omega arith))
 
-    pub counted-more : (r : ℕ) → Counted offs (i + 1) (set odd i r)
-    counted-more r = record { long = simp length-set own.long; at = λ j l. get_or-set_other odd i j r 0 (λ e. omega arith) ∙ own.at j (omega arith) }
+    pub counted_more : (r : ℕ) → Counted offs (i + 1) (set odd i r)
+    counted_more r = record { long = simp length-set own.long; at = λ j l. get_or-set_other odd i j r 0 (λ e. omega arith) ∙ own.at j (omega arith) }
 
     pub turned_more : (r : ℕ) → n.limits.repeater ≡ 1 → r ≡ (get_or odd i 0 + get_or odd (parent n i) 0) % 2 → Turned n offs (i + 1) (set odd i r)
     turned_more r u e = record {

@@ -46,11 +46,11 @@ module _ {n : Net} {offs : ℕ → List ℕ} {odd : List ℕ} (s : SoundNet n) (
   sum_most i h = omega (arith, t.at i (omega (arith, s.kinds_long)), s.polarity_most i, s.repeater_most)
 
   module _ (lowest : ℕ) (e : lowest ≡ first_sink n (length n.kinds - 1) 1) where
-    lowest-is : lowest ≡ first_sink n (places n - 1) 1
-    lowest-is = rw (← s.kinds_long) e
+    lowest_is : lowest ≡ first_sink n (places n - 1) 1
+    lowest_is = rw (← s.kinds_long) e
 
-    pub none-to-judge : length n.kinds ≤ lowest → one_sense n offs ≡ Sound
-    none-to-judge h = no_sinks n offs s.some (omega (arith, lowest-is, s.kinds_long))
+    pub none_to_judge : length n.kinds ≤ lowest → one_sense n offs ≡ Sound
+    none_to_judge h = no_sinks n offs s.some (omega (arith, lowest_is, s.kinds_long))
 
-    pub against-lowest : lowest < length n.kinds → one_sense n offs ≡ judge_each (has_sense n offs ((get_or odd lowest 0 + polarity n lowest) % 2)) (length n.kinds - 1) 1
-    against-lowest h = rw (sense_by t lowest (omega (arith, s.kinds_long)), s.kinds_long, ← lowest-is)
+    pub against_lowest : lowest < length n.kinds → one_sense n offs ≡ judge_each (has_sense n offs ((get_or odd lowest 0 + polarity n lowest) % 2)) (length n.kinds - 1) 1
+    against_lowest h = rw (sense_by t lowest (omega (arith, s.kinds_long)), s.kinds_long, ← lowest_is)

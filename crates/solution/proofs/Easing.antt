@@ -24,8 +24,8 @@ module _ {n m : Net} (ease : Eases n m) {ws os ws' os' vs us vs' us' : List ℕ}
 
   -- where the first net has a least count the second needs no more, and where there is room for that it is placed
   module _ (sound : judged m ≡ Sound) (first : (solved_number r ≡ 0) ⊎ (solved_number r ≡ 9)) where
-    pub eased-count : ((solved_number r' ≡ 0) ⊎ (solved_number r' ≡ 9)) × (solved_count r' ≤ solved_count r)
-    eased-count = go (counted a first) (row b)
+    pub eased_count : ((solved_number r' ≡ 0) ⊎ (solved_number r' ≡ 9)) × (solved_count r' ≤ solved_count r)
+    eased_count = go (counted a first) (row b)
       where
         go : Least n (solved_count r) → SolveRow m (room_in vs us) (solved_number r') (solved_count r') → ((solved_number r' ≡ 0) ⊎ (solved_number r' ≡ 9)) × (solved_count r' ≤ solved_count r)
         go l (of_net x f k p) = sound_refused sound f
@@ -33,15 +33,15 @@ module _ {n m : Net} (ease : Eases n m) {ws os ws' os' vs us vs' us' : List ℕ}
         go l (full s g o k) = (inr k, ease_least ease (solved_count r) (solved_count r') l g)
         go l (placed s g o k) = (inl k, ease_least ease (solved_count r) (solved_count r') l g)
 
-    pub eased-placed : solved_count r ≤ room_in vs us → solved_number r' ≡ 0
-    eased-placed room = go (row b)
+    pub eased_placed : solved_count r ≤ room_in vs us → solved_number r' ≡ 0
+    eased_placed room = go (row b)
       where
         go : SolveRow m (room_in vs us) (solved_number r') (solved_count r') → solved_number r' ≡ 0
         go (of_net x f k p) = sound_refused sound f
         go (none s h k p) = absurd (let l = counted a first in ease_none ease h l.placement l.legal)
-        go (full s g o k) = absurd (omega (arith, eased-count.1))
+        go (full s g o k) = absurd (omega (arith, eased_count.1))
         go (placed s g o k) = k
 
   -- with 0 for the first net, and as much room for the second
   pub eased_nought : judged m ≡ Sound → room_in ws os ≤ room_in vs us → solved_number r ≡ 0 → (solved_number r' ≡ 0) × (solved_count r' ≤ solved_count r)
-  eased_nought sound room e = (eased-placed sound (inl e) (le_trans (fits a e) room), (eased-count sound (inl e)).1)
+  eased_nought sound room e = (eased_placed sound (inl e) (le_trans (fits a e) room), (eased_count sound (inl e)).1)

@@ -37,14 +37,14 @@ module _ {bytes : List ℕ} {s : Said} where
       there (net n e (full k l m f)) q = absurd (omega (arith, ap status f))
       there (net n e (placed ws os a b c l f)) q = (n, length ws, e, l, b)
 
-      on-net : {n : Net} → SolvesNet n s → (k : ℕ) → Least n k → k ≤ most_entries → s.status ≡ 48
-      on-net (none x f) k l h = absurd (x l.placement l.legal)
-      on-net (full j i m f) k l h = absurd (omega (arith, one_least i l))
-      on-net (placed ws os a b c i f) k l h = ap status f
+      on_net_lem : {n : Net} → SolvesNet n s → (k : ℕ) → Least n k → k ≤ most_entries → s.status ≡ 48
+      on_net_lem (none x f) k l h = absurd (x l.placement l.legal)
+      on_net_lem (full j i m f) k l h = absurd (omega (arith, one_least i l))
+      on_net_lem (placed ws os a b c i f) k l h = ap status f
 
       same : (m n : Net) → net_of bytes ≡ read m → net_of bytes ≡ read n → m ≡ n
       same m n e g = cc
 
       back : Solves bytes s → (n : Net) (k : ℕ) → net_of bytes ≡ read n → Least n k → k ≤ most_entries → s.status ≡ 48
       back (unread r e f) n k g l h = absurd (let z : ◌≡◌ {A = ℕ} 0 1 = cc in omega arith)
-      back (net m e p) n k g l h = on-net (rw (same m n e g) at p) k l h
+      back (net m e p) n k g l h = on_net_lem (rw (same m n e g) at p) k l h

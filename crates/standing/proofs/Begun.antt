@@ -25,11 +25,11 @@ module _ (n : Net) (vs os : List ℕ) where
   net_first a ea r e = rw (← ea, e)
 
   module _ (a : Judged) (ea : a ≡ judged n) (sa : a ≡ Sound) where
-    pub sound-net : SoundNet n
-    sound-net = sound_says n (sym ea ∙ sa)
+    pub sound_net : SoundNet n
+    sound_net = sound_says n (sym ea ∙ sa)
 
-    pub then-stood : (b : Judged) → b ≡ stood n vs os → b ≡ begun n vs os
-    then-stood b eb = rw (← ea, sa) eb
+    pub then_stood : (b : Judged) → b ≡ stood n vs os → b ≡ begun n vs os
+    then_stood b eb = rw (← ea, sa) eb
 
   pub begun_says : (b : Judged) → b ≡ begun n vs os → b ≡ Sound → Placed n vs os
   begun_says b eb sb =

@@ -22,22 +22,22 @@ module _ (τ : Cell) where
 
   -- by either parity
   module _ (w : ℕ) (s t : State) (π : ℕ) (u : State) (make : (m l x h r : ℕ) → Met τ π w u m l x h r → Meets τ w s t m l) where
-    cand-met : (x n h : ℕ) → Under u x n h → SAtt (Meets τ w s t) (cand τ inv π n (w + h))
+    cand_met : (x n h : ℕ) → Under u x n h → SAtt (Meets τ w s t) (cand τ inv π n (w + h))
     unfolding cand second
-    cand-met x n h v =
+    cand_met x n h v =
         let k : ℕ = n + req τ inv π (w + h) in
         let l : ℕ = T τ (w + h) (req τ inv π (w + h)) in
         let o = make k l x h (req τ inv π (w + h)) (met_by π w u x n h v) in
         (o, meets_up w s t k (suc k) l l (omega arith) (omega arith) o)
 
-    via-met : (v : State) → ((x n h : ℕ) → Under v x n h → Under u x n h) → SAtt (Meets τ w s t) (via τ inv π w v)
+    via_met : (v : State) → ((x n h : ℕ) → Under v x n h → Under u x n h) → SAtt (Meets τ w s t) (via τ inv π w v)
     unfolding via
-    via-met lost f = tt
-    via-met (has n a b) f =
-        merge_att (Meets τ w s t) (meets_up w s t) (cand τ inv π n (w + a)) (cand τ inv π (suc n) (w + b)) (cand-met 0 n a (f 0 n a (refl, refl))) (cand-met 1 (suc n) b (f 1 (suc n) b (refl, refl)))
+    via_met lost f = tt
+    via_met (has n a b) f =
+        merge_att (Meets τ w s t) (meets_up w s t) (cand τ inv π n (w + a)) (cand τ inv π (suc n) (w + b)) (cand_met 0 n a (f 0 n a (refl, refl))) (cand_met 1 (suc n) b (f 1 (suc n) b (refl, refl)))
 
   pub wire_met : (w : ℕ) (s t : State) → SAtt (Meets τ w s t) (wire_of τ inv w s t)
   unfolding wire_of
   wire_met w s t =
       merge_att (Meets τ w s t) (meets_up w s t) (via τ inv 0 w s) (via τ inv 1 w t)
-      (via-met w s t 0 s (λ m l x h r o. even x h r o) s (λ x n h u. u)) (via-met w s t 1 t (λ m l x h r o. odd x h r o) t (λ x n h u. u))
+      (via_met w s t 0 s (λ m l x h r o. even x h r o) s (λ x n h u. u)) (via_met w s t 1 t (λ m l x h r o. odd x h r o) t (λ x n h u. u))

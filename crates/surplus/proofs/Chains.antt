@@ -41,10 +41,10 @@ module _ (τ : Cell) where
   rest_alive p x h l = subst Alive (sym (split p x h l).after) tt
 
   module _ (next lo hi : ℕ → ℕ) (p : ℕ) where
-    pub chain-none : (k : ℕ) (x : Hanging) → Chain τ next lo hi p k x → k ≡ 0 → x ≡ none
-    chain-none k none c e = refl
-    chain-none k (sink i w q s r) c e = absurd (omega (arith, c.0, c.1))
-    chain-none k (branch i w f r) c e = absurd (omega (arith, c.0, c.1))
+    pub chain_none : (k : ℕ) (x : Hanging) → Chain τ next lo hi p k x → k ≡ 0 → x ≡ none
+    chain_none k none c e = refl
+    chain_none k (sink i w q s r) c e = absurd (omega (arith, c.0, c.1))
+    chain_none k (branch i w f r) c e = absurd (omega (arith, c.0, c.1))
 
     pub chain_more : (k : ℕ) (x : Hanging) → Chain τ next lo hi p k x → (k ≡ 0 → ⊥) → More x
     chain_more k none c ne = ne c
@@ -57,18 +57,18 @@ module _ (τ : Cell) where
     chain_first k (sink i w q s r) c ne = sym c.0
     chain_first k (branch i w f r) c ne = sym c.0
 
-    pub chain-kept : (k : ℕ) (x : Hanging) → Chain τ next lo hi p k x → (k ≡ 0 → ⊥) → Kept (tip τ p x) (lo k) (hi k)
-    chain-kept k none c ne = absurd (ne c)
-    chain-kept k (sink i w q s r) c ne = rw c.0 c.2
-    chain-kept k (branch i w f r) c ne = rw c.0 c.2
+    pub chain_kept : (k : ℕ) (x : Hanging) → Chain τ next lo hi p k x → (k ≡ 0 → ⊥) → Kept (tip τ p x) (lo k) (hi k)
+    chain_kept k none c ne = absurd (ne c)
+    chain_kept k (sink i w q s r) c ne = rw c.0 c.2
+    chain_kept k (branch i w f r) c ne = rw c.0 c.2
 
-    pub chain-rest : (k : ℕ) (x : Hanging) → Chain τ next lo hi p k x → (k ≡ 0 → ⊥) → Chain τ next lo hi p (next k) (rest x)
-    chain-rest k none c ne = absurd (ne c)
-    chain-rest k (sink i w q s r) c ne = rw c.0 c.3
-    chain-rest k (branch i w f r) c ne = rw c.0 c.3
+    pub chain_rest : (k : ℕ) (x : Hanging) → Chain τ next lo hi p k x → (k ≡ 0 → ⊥) → Chain τ next lo hi p (next k) (rest x)
+    chain_rest k none c ne = absurd (ne c)
+    chain_rest k (sink i w q s r) c ne = rw c.0 c.3
+    chain_rest k (branch i w f r) c ne = rw c.0 c.3
 
-    pub kept-loads : (k : ℕ) (x : Hanging) (m a b : ℕ) → Chain τ next lo hi p k x → (k ≡ 0 → ⊥) → tip τ p x ≡ has m a b → (lo k ≡ a) × (hi k ≡ b)
-    kept-loads k x m a b c ne e = subst (λ (s : State). Kept s (lo k) (hi k)) e (chain-kept k x c ne)
+    pub kept_loads : (k : ℕ) (x : Hanging) (m a b : ℕ) → Chain τ next lo hi p k x → (k ≡ 0 → ⊥) → tip τ p x ≡ has m a b → (lo k ≡ a) × (hi k ≡ b)
+    kept_loads k x m a b c ne e = subst (λ (s : State). Kept s (lo k) (hi k)) e (chain_kept k x c ne)
 
   -- ---- the dealing, taken apart and put together
   pub dealt_first : (part : ℕ → ℕ) (p e : ℕ) (x : Hanging) → More x → Dealt τ part p e x → Takes τ (tip τ p x) (acc τ (rest x) p) e (part (first x))

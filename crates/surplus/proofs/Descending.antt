@@ -101,17 +101,17 @@ module _ (τ : Cell) {n : Net} (sound : SoundNet n) {senses₀ : List ℕ} {e₀
     unfolding left'
     others u ne np = upd_other (upd d.left (parent n i) (d.left (parent n i) - part_at parts i)) i e u ne ∙ upd_other d.left (parent n i) (d.left (parent n i) - part_at parts i) u np
 
-    own-sense : sense_at (set senses i q) i ≡ q
-    own-sense = get_or-set_same senses i q 0 (omega (arith, d.senses_long, sound.few))
+    own_sense : sense_at (set senses i q) i ≡ q
+    own_sense = get_or-set_same senses i q 0 (omega (arith, d.senses_long, sound.few))
 
     sides : (u : ℕ) → (u ≡ i → ⊥) → sense_at (set senses i q) u ≡ sense_at senses u
     sides u ne = get_or-set_other senses i u q 0 ne
 
-    spent-by : Spent τ n (sense_at (set senses i q)) left' N (suc i) (at + length os')
+    spent_by : Spent τ n (sense_at (set senses i q)) left' N (suc i) (at + length os')
     unfolding os'
-    spent-by =
+    spent_by =
         spent_on τ sound d.spent d.lo h (part_at parts i) e z.below z.load os' own_parts (pass_part τ sound d.pass d.lo h).few sides here own others
-        (λ t eo ec et en eb. rw own-sense (z.ok t eo ec et en eb))
+        (λ t eo ec et en eb. rw own_sense (z.ok t eo ec et en eb))
 
     -- there is room for its entries
     pub room : at + (r + k) ≤ N
@@ -120,7 +120,7 @@ module _ (τ : Cell) {n : Net} (sound : SoundNet n) {senses₀ : List ℕ} {e₀
       arith,
       offsets_length τ (wire n i) f r k,
       spent_room τ sound d.spent d.lo h (part_at parts i) e z.below z.load os' own_parts (pass_part τ sound d.pass d.lo h).few sides here own others
-          (λ t eo ec et en eb. rw own-sense (z.ok t eo ec et en eb)),
+          (λ t eo ec et en eb. rw own_sense (z.ok t eo ec et en eb)),
     )
 
     -- its node's surplus is dealt: no part is changed but those of its wires
@@ -129,9 +129,9 @@ module _ (τ : Cell) {n : Net} (sound : SoundNet n) {senses₀ : List ℕ} {e₀
       offs' : ℕ → List ℕ
       offs' = upd d.offs i os'
 
-      own-offs : offs' i ≡ offsets τ (wire n i) f r k
+      own_offs : offs' i ≡ offsets τ (wire n i) f r k
       unfolding offs' os'
-      own-offs = upd_same d.offs i os'
+      own_offs = upd_same d.offs i os'
 
       older : (j : ℕ) → j < i → offs' j ≡ d.offs j
       unfolding offs'
@@ -139,7 +139,7 @@ module _ (τ : Cell) {n : Net} (sound : SoundNet n) {senses₀ : List ℕ} {e₀
 
       listed : (O : ℕ → List ℕ) → ((j : ℕ) → j < suc i → O j ≡ offs' j) → Listing (places n) O ws₀ ws' os₀ os'' (suc i) at'
       listed O y =
-          let o : O i ≡ offsets τ (wire n i) f r k = y i (omega arith) ∙ own-offs in
+          let o : O i ≡ offsets τ (wire n i) f r k = y i (omega arith) ∙ own_offs in
           let l : length (O i) ≡ r + k = ap length o ∙ offsets_length τ (wire n i) f r k in
           let m : i + 1 ≡ suc i = omega arith in
           subst (λ (u : ℕ). Listing (places n) O ws₀ ws' os₀ os'' u at') m
@@ -149,9 +149,9 @@ module _ (τ : Cell) {n : Net} (sound : SoundNet n) {senses₀ : List ℕ} {e₀
       unfolding os'
       long' = omega (arith, offsets_length τ (wire n i) f r k)
 
-      pub descent-on : Descent τ n senses₀ e₀ N ws₀ os₀ (set senses i q) parts' ws' os'' (suc i) at'
+      pub descent_on : Descent τ n senses₀ e₀ N ws₀ os₀ (set senses i q) parts' ws' os'' (suc i) at'
       unfolding own_parts
-      descent-on = record {
+      descent_on = record {
         lo = omega arith;
         senses_long = simp length-set d.senses_long;
         parts_long = long;
@@ -159,17 +159,17 @@ module _ (τ : Cell) {n : Net} (sound : SoundNet n) {senses₀ : List ℕ} {e₀
         offs = offs';
         pass =
             pass_on τ sound d.pass d.lo h e z.below z.load here own others sides older kept
-            (λ t to tc tt tn tb. rw own-sense (z.ok t (to ∙ own-offs) tc tt tn tb)) (rw own-sense z.sense) (λ y. rw own-sense (z.live y)) (λ y. rw own-sense (dealt y));
-        spent = subst (Spent τ n (sense_at (set senses i q)) left' N (suc i)) long' spent-by;
+            (λ t to tc tt tn tb. rw own_sense (z.ok t (to ∙ own_offs) tc tt tn tb)) (rw own_sense z.sense) (λ y. rw own_sense (z.live y)) (λ y. rw own_sense (dealt y));
+        spent = subst (Spent τ n (sense_at (set senses i q)) left' N (suc i)) long' spent_by;
         listing = listed;
       }
 
     -- where it has no surplus, nothing is dealt
-    pub dealt-none : e ≡ 0 → kind n i ≡ 0 → Dealt τ (part_at parts) q e (under n i)
-    dealt-none y x = rw y (dealt_0 τ (part_at parts) q (under n i) (z.live x) (hanging_each sound i (λ j. part_at parts j ≡ 0) (λ j g u. parts_clear j u) (suc i)))
+    pub dealt_none : e ≡ 0 → kind n i ≡ 0 → Dealt τ (part_at parts) q e (under n i)
+    dealt_none y x = rw y (dealt_0 τ (part_at parts) q (under n i) (z.live x) (hanging_each sound i (λ j. part_at parts j ≡ 0) (λ j g u. parts_clear j u) (suc i)))
 
-    pub dealt-kept : {parts' : List ℕ} → Out τ parts parts' q e (under n i) → (j : ℕ) → (parent n j ≡ i → ⊥) → part_at parts' j ≡ part_at parts j
-    dealt-kept o j ne = o.kept j (not_ours sound i j ne)
+    pub dealt_kept : {parts' : List ℕ} → Out τ parts parts' q e (under n i) → (j : ℕ) → (parent n j ≡ i → ⊥) → part_at parts' j ≡ part_at parts j
+    dealt_kept o j ne = o.kept j (not_ours sound i j ne)
 
 -- ---- the end
 pub descent_end : (τ : Cell) → τ.cu ≡ τ.cb + τ.D → 1 ≤ τ.D → {n : Net} {senses₀ parts₀ : List ℕ} {N : ℕ} {ws₀ os₀ senses parts ws os : List ℕ} {i at : ℕ} (b : Begun τ n senses₀ parts₀ N ws₀ os₀)

@@ -37,8 +37,8 @@ module _ (p from i : ℕ) (s : State) (slots : List (List ℕ)) (sums : List ℕ
   }
 
   module _ (m a b : ℕ) (e : s ≡ has m a b) where
-    pub hung-dead : count_at sums p from ≡ 0 → Hung p from i s slots sums (set slots (side p i) (a ∷ b ∷ 0 ∷ 0 ∷ [])) (set sums (side p i) 0)
-    hung-dead z₀ = record {
+    pub hung_dead : count_at sums p from ≡ 0 → Hung p from i s slots sums (set slots (side p i) (a ∷ b ∷ 0 ∷ 0 ∷ [])) (set sums (side p i) 0)
+    hung_dead z₀ = record {
       slots_long = simp length-set;
       sums_long = simp length-set;
       slots_kept = λ k ne. get_or-set_other slots (side p i) k _ [] ne;
@@ -47,9 +47,9 @@ module _ (p from i : ℕ) (s : State) (slots : List (List ℕ)) (sums : List ℕ
       slot = λ τ z h. rw zero_now (pair_dead τ (count_at sums p from) (zero_at slots p from) (one_at slots p from) _ _ s z h z₀);
     }
 
-    pub hung-more : (c x y : ℕ) → count_at sums p from ≡ c → zero_at slots p from ≡ x → one_at slots p from ≡ y → (c ≡ 0 → ⊥)
+    pub hung_more : (c x y : ℕ) → count_at sums p from ≡ c → zero_at slots p from ≡ x → one_at slots p from ≡ y → (c ≡ 0 → ⊥)
         → Hung p from i s slots sums (set slots (side p i) (a ∷ b ∷ (a + x) ∷ min (a + y) (b + x) ∷ [])) (set sums (side p i) (m + c))
-    hung-more c x y ec ex ey ne = record {
+    hung_more c x y ec ex ey ne = record {
       slots_long = simp length-set;
       sums_long = simp length-set;
       slots_kept = λ k ne. get_or-set_other slots (side p i) k _ [] ne;

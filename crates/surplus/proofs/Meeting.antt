@@ -88,8 +88,8 @@ module _ (τ : Cell) (eq : τ.cu ≡ τ.cb + τ.D) (pos : 1 ≤ τ.D) (small : �
 
   module _ {links : List ℕ} {slots : List (List ℕ)} {sums : List ℕ} {i₀ : ℕ} (w : WiresJoined τ n links slots sums i₀) {p : ℕ} (lp : p ≤ 1) where
     -- and their chain
-    pub runs-at : (i v k : ℕ) → i₀ ≤ i → v < i → i ≤ places n → First n i v k → Alive (acc τ (hanging n (places n - i) v) p) → Runs τ links slots p k (hanging n (places n - i) v)
-    runs-at i v k l lt le f a = record {
+    pub runs_at : (i v k : ℕ) → i₀ ≤ i → v < i → i ≤ places n → First n i v k → Alive (acc τ (hanging n (places n - i) v) p) → Runs τ links slots p k (hanging n (places n - i) v)
+    runs_at i v k l lt le f a = record {
       chain = chain_by τ sound w.linked (lo_at slots p) (hi_at slots p) p (λ j g o h. w.kept j p g o h lp) (places n - i) i v k l (omega arith) f;
       live = a;
       order = ordered_down 1 i (hanging n (places n - i) v) (omega arith) (hanging_ordered sound v i);
@@ -98,16 +98,16 @@ module _ (τ : Cell) (eq : τ.cu ≡ τ.cb + τ.D) (pos : 1 ≤ τ.D) (small : �
       few = width_few sound (places n - i) v (omega arith);
     }
 
-    pub asks-close : (i v k : ℕ) → i₀ ≤ i → v < i → i ≤ places n → First n i v k → AsksClose τ links slots sums p k (hanging n (places n - i) v)
-    asks-close i v k l lt le f = record { slot = slot_at τ w lp i v k l f; runs = runs-at i v k l lt le f }
+    pub asks_close : (i v k : ℕ) → i₀ ≤ i → v < i → i ≤ places n → First n i v k → AsksClose τ links slots sums p k (hanging n (places n - i) v)
+    asks_close i v k l lt le f = record { slot = slot_at τ w lp i v k l f; runs = runs_at i v k l lt le f }
 
-    pair-here : (i v k : ℕ) (x : Hanging) → i₀ ≤ i → First n i v k → hanging n (places n - i) v ≡ x → Alive (acc τ x p) → PairIs slots p k (acc τ x p)
-    pair-here i v k x g f e a = pair_is slots p k (count_at sums p k) (acc τ x p) a (subst (λ (x : Hanging). SlotIs slots sums p k (acc τ x p)) e (slot_at τ w lp i v k g f))
+    pair_here : (i v k : ℕ) (x : Hanging) → i₀ ≤ i → First n i v k → hanging n (places n - i) v ≡ x → Alive (acc τ x p) → PairIs slots p k (acc τ x p)
+    pair_here i v k x g f e a = pair_is slots p k (count_at sums p k) (acc τ x p) a (subst (λ (x : Hanging). SlotIs slots sums p k (acc τ x p)) e (slot_at τ w lp i v k g f))
 
     paired_by : (l i v k : ℕ) → i₀ ≤ i → places n - i ≤ l → First n i v k → Alive (acc τ (hanging n (places n - i) v) p) → Paired τ links slots p k (hanging n (places n - i) v)
-    paired_by zero i v k g e f a = elim (ℕ_discrete k 0) [ yes q ↦ rw (f.not q) (pair-here i v k none g f (f.not q) (subst (λ (x : Hanging). Alive (acc τ x p)) (f.not q) a)) | no ne ↦ absurd (omega (arith, f.from (omega arith), f.low)) ]
+    paired_by zero i v k g e f a = elim (ℕ_discrete k 0) [ yes q ↦ rw (f.not q) (pair_here i v k none g f (f.not q) (subst (λ (x : Hanging). Alive (acc τ x p)) (f.not q) a)) | no ne ↦ absurd (omega (arith, f.from (omega arith), f.low)) ]
     paired_by (suc l) i v k g e f a = elim (ℕ_discrete k 0) [
-      | yes q ↦ rw (f.not q) (pair-here i v k none g f (f.not q) (subst (λ (x : Hanging). Alive (acc τ x p)) (f.not q) a))
+      | yes q ↦ rw (f.not q) (pair_here i v k none g f (f.not q) (subst (λ (x : Hanging). Alive (acc τ x p)) (f.not q) a))
       | no ne ↦
           let z : 1 ≤ k = omega arith in
           let r : Hanging = hanging n (places n - suc k) v in
@@ -117,15 +117,15 @@ module _ (τ : Cell) (eq : τ.cu ≡ τ.cb + τ.D) (pos : 1 ≤ τ.D) (small : �
           let d : Paired τ links slots p (next_at links k) r =
           paired_by l (suc k) v (next_at links k) (omega (arith, f.from z)) (omega (arith, f.from z, f.low)) (subst (λ (u : ℕ). First n (suc k) u (next_at links k)) (f.ours z) (w.linked.nexts k (omega (arith, f.from z)) f.low))
           (grow_rest τ p (kind n k) k (wire n k) (pin n k) (polarity n k) (under n k) r a') in
-          rw y (paired_grow τ links slots p (kind n k) k (wire n k) (pin n k) (polarity n k) (under n k) r (pair-here i v k x g f y a') d)
+          rw y (paired_grow τ links slots p (kind n k) k (wire n k) (pin n k) (polarity n k) (under n k) r (pair_here i v k x g f y a') d)
     ]
 
     -- what is asked where the wires under v are dealt a surplus
-    pub asks-under : (parts : List ℕ) (v : ℕ) → i₀ ≤ suc v → v < places n → First n (suc v) v (head_at links v) → length parts ≡ most_places
+    pub asks_under : (parts : List ℕ) (v : ℕ) → i₀ ≤ suc v → v < places n → First n (suc v) v (head_at links v) → length parts ≡ most_places
         → Alive (acc τ (under n v) p) → ((j : ℕ) → parent n j ≡ v → part_at parts j ≡ 0) → Asks τ links slots parts p (head_at links v) (under n v)
-    asks-under parts v l h f long a clear = record {
+    asks_under parts v l h f long a clear = record {
       long = long;
-      runs = runs-at (suc v) v (head_at links v) l (omega arith) h f a;
+      runs = runs_at (suc v) v (head_at links v) l (omega arith) h f a;
       paired = paired_by (places n - suc v) (suc v) v (head_at links v) l (omega arith) f a;
       clear = λ j o. clear j (each_on (λ j. parent n j ≡ v) (under n v) j (hanging_ours sound v (suc v)) o);
     }

@@ -16,9 +16,9 @@ use Rattle.surplus.specs.Tables.{next_at, lo_at, hi_at}
 use Rattle.surplus.specs.Asks.{Rows, Out, AsksMore, PartIs}
 use Rattle.surplus.proofs.Chains.{width_rest}
 use Rattle.surplus.proofs.Spreading.{spread_rest}
-use Rattle.surplus.proofs.Tails.{rows_row, runs_low, runs_none, tail-runs, more, worth, own, wire_small, tail-small}
+use Rattle.surplus.proofs.Tails.{rows_row, runs_low, runs_none, tail_runs, more, worth, own, wire_small, tail_small}
 use Rattle.surplus.proofs.Dealing.{takes_row}
-use Rattle.surplus.proofs.One.{Way, way_start, way_out, way_on, way-take}
+use Rattle.surplus.proofs.One.{Way, way_start, way_out, way_on, way_take}
 
 -- under way, with m wires left
 pub record WayMore (τ : Cell) (rows links : List ℕ) (slots : List (List ℕ)) (parts₀ parts : List ℕ) (p e : ℕ) (f : Hanging) (j left m : ℕ) : Type 0 where
@@ -42,22 +42,22 @@ module _ {τ : Cell} {rows links : List ℕ} {slots : List (List ℕ)} {parts₀
     there : j ≡ 0 → ⊥
     there z = ne (sym w.made.wide ∙ ap width (runs_none w.way.runs z))
 
-    rest-made : Rows τ rows p (m - 1) (rest w.way.x)
-    rest-made =
+    rest_made : Rows τ rows p (m - 1) (rest w.way.x)
+    rest_made =
         let h = more w.way.runs there in
         record { wide = omega (arith, w.made.wide, width_rest w.way.x h); spread = spread_rest τ rows p w.way.x h w.made.spread }
 
-    pub part-asks : ((lo_at slots p j ≤ 1000000) × (hi_at slots p j ≤ 1000000)) × ((k : ℕ) → load_at rows ((m - 1) * (m - 1)) ((m - 1) * 2) k ≤ 2000000000)
-    part-asks = (wire_small w.way.runs there, tail-small w.way.runs there rows (m - 1) rest-made)
+    pub part_asks : ((lo_at slots p j ≤ 1000000) × (hi_at slots p j ≤ 1000000)) × ((k : ℕ) → load_at rows ((m - 1) * (m - 1)) ((m - 1) * 2) k ≤ 2000000000)
+    part_asks = (wire_small w.way.runs there, tail_small w.way.runs there rows (m - 1) rest_made)
 
-    pub more-low : (l : ℕ) → l ≡ next_at links j → l < most_places
-    more-low l q = runs_low (tail-runs w.way.runs there l q)
+    pub more_low : (l : ℕ) → l ≡ next_at links j → l < most_places
+    more_low l q = runs_low (tail_runs w.way.runs there l q)
 
-    pub more-take : (l : ℕ) → l ≡ next_at links j → (s : ℕ) → PartIs τ rows slots p j (m - 1) left s → WayMore τ rows links slots parts₀ (set parts j s) p e f l (left - s) (m - 1)
-    unfolding way_on way-take
-    more-take l q s d =
+    pub more_take : (l : ℕ) → l ≡ next_at links j → (s : ℕ) → PartIs τ rows slots p j (m - 1) left s → WayMore τ rows links slots parts₀ (set parts j s) p e f l (left - s) (m - 1)
+    unfolding way_on way_take
+    more_take l q s d =
         let u = worth w.way.runs there in
         let o = own w.way.runs there in
         let g : ℕ → ℕ = load_at rows ((m - 1) * (m - 1)) ((m - 1) * 2) in
         let sh : Shared g left u.a u.b (min u.a τ.cb) s = rw (sym o.0, sym o.1) d in
-        rw q (record { way = way-take w.way there s (takes_row τ g left u.m u.a u.b s _ _ u.own (rows_row τ rows p (m - 1) (rest w.way.x) rest-made) sh); made = rest-made })
+        rw q (record { way = way_take w.way there s (takes_row τ g left u.m u.a u.b s _ _ u.own (rows_row τ rows p (m - 1) (rest w.way.x) rest_made) sh); made = rest_made })

@@ -14,7 +14,7 @@ use Rattle.surplus.specs.Pairs.{PairOf, NearOf}
 use Rattle.surplus.specs.Links.{Chain}
 use Rattle.surplus.specs.Tables.{next_at, lo_at, hi_at, zero_at, one_at, count_at}
 use Rattle.surplus.specs.Asks.{SmallTip, Smalls, Runs, Rows, CloseIs, ClosedIs, AsksClose, to_end}
-use Rattle.surplus.proofs.Chains.{Split, split, rest_alive, chain-none, chain_more, chain_first, chain-rest, kept-loads, each_rest, ordered_rest, width_rest}
+use Rattle.surplus.proofs.Chains.{Split, split, rest_alive, chain_none, chain_more, chain_first, chain_rest, kept_loads, each_rest, ordered_rest, width_rest}
 use Rattle.surplus.proofs.Pairs.{near_dead, near_fits}
 use Rattle.surplus.proofs.Spreading.{square_suc, below, spread_none, spread_row, spread_more}
 
@@ -61,7 +61,7 @@ module _ {τ : Cell} {links : List ℕ} {slots : List (List ℕ)} {p k : ℕ} {f
 
   -- no wire
   pub runs_none : k ≡ 0 → f ≡ none
-  runs_none = chain-none τ (next_at links) (lo_at slots p) (hi_at slots p) p k f a.chain
+  runs_none = chain_none τ (next_at links) (lo_at slots p) (hi_at slots p) p k f a.chain
 
   pub rows_none : (t : List ℕ) → k ≡ 0 → get_or t 0 0 ≡ 0 → Rows τ t p 0 f
   rows_none t z q = subst (Rows τ t p 0) (sym (runs_none z)) (record { wide = refl; spread = spread_none τ t p q })
@@ -74,17 +74,17 @@ module _ {τ : Cell} {links : List ℕ} {slots : List (List ℕ)} {p k : ℕ} {f
     pub more : More f
     more = chain_more τ (next_at links) (lo_at slots p) (hi_at slots p) p k f a.chain ne
 
-    pub is-first : first f ≡ k
-    is-first = chain_first τ (next_at links) (lo_at slots p) (hi_at slots p) p k f a.chain ne
+    pub is_first : first f ≡ k
+    is_first = chain_first τ (next_at links) (lo_at slots p) (hi_at slots p) p k f a.chain ne
 
-    next-chain : Chain τ (next_at links) (lo_at slots p) (hi_at slots p) p (next_at links k) (rest f)
-    next-chain = chain-rest τ (next_at links) (lo_at slots p) (hi_at slots p) p k f a.chain ne
+    next_chain : Chain τ (next_at links) (lo_at slots p) (hi_at slots p) p (next_at links k) (rest f)
+    next_chain = chain_rest τ (next_at links) (lo_at slots p) (hi_at slots p) p k f a.chain ne
 
     -- l is the next
     module _ (l : ℕ) (q : l ≡ next_at links k) where
-      pub tail-runs : Runs τ links slots p l (rest f)
-      tail-runs = rw q (record {
-        chain = next-chain;
+      pub tail_runs : Runs τ links slots p l (rest f)
+      tail_runs = rw q (record {
+        chain = next_chain;
         live = rest_alive τ p f more a.live;
         order = ordered_up 1 (suc (first f)) (rest f) (omega arith) (ordered_rest 1 f more a.order);
         low = each_rest (λ j. j < most_places) f more a.low;
@@ -92,16 +92,16 @@ module _ {τ : Cell} {links : List ℕ} {slots : List (List ℕ)} {p k : ℕ} {f
         few = omega (arith, a.few, width_rest f more);
       })
 
-      pub tail-falls : to_end l < to_end k
-      tail-falls =
-          let o : Ordered (suc k) (rest f) = subst (λ (j : ℕ). Ordered (suc j) (rest f)) is-first (ordered_rest 1 f more a.order) in
-          falls τ (next_at links) (lo_at slots p) (hi_at slots p) p k l (rest f) (rw q next-chain) o runs_low ne
+      pub tail_falls : to_end l < to_end k
+      tail_falls =
+          let o : Ordered (suc k) (rest f) = subst (λ (j : ℕ). Ordered (suc j) (rest f)) is_first (ordered_rest 1 f more a.order) in
+          falls τ (next_at links) (lo_at slots p) (hi_at slots p) p k l (rest f) (rw q next_chain) o runs_low ne
 
     pub worth : Split τ p f
     worth = split τ p f more a.live
 
     pub own : (lo_at slots p k ≡ worth.a) × (hi_at slots p k ≡ worth.b)
-    own = kept-loads τ (next_at links) (lo_at slots p) (hi_at slots p) p k f worth.m worth.a worth.b a.chain ne worth.own
+    own = kept_loads τ (next_at links) (lo_at slots p) (hi_at slots p) p k f worth.m worth.a worth.b a.chain ne worth.own
 
     pub wire_small : (lo_at slots p k ≤ 1000000) × (hi_at slots p k ≤ 1000000)
     wire_small =
@@ -110,11 +110,11 @@ module _ {τ : Cell} {links : List ℕ} {slots : List (List ℕ)} {p k : ℕ} {f
 
     -- the row of the wires after it
     module _ (t : List ℕ) (m : ℕ) (r : Rows τ t p m (rest f)) where
-      pub tail-few : m < most_children
-      tail-few = omega (arith, r.wide, width_rest f more, a.few)
+      pub tail_few : m < most_children
+      tail_few = omega (arith, r.wide, width_rest f more, a.few)
 
-      pub tail-small : (e : ℕ) → load_at t (m * m) (m * 2) e ≤ 2000000000
-      tail-small e = go (acc τ (rest f) p) (rows_row τ t p m (rest f) r) (smalls_acc τ p f more a.smalls)
+      pub tail_small : (e : ℕ) → load_at t (m * m) (m * 2) e ≤ 2000000000
+      tail_small e = go (acc τ (rest f) p) (rows_row τ t p m (rest f) r) (smalls_acc τ p f more a.smalls)
         where
           go : (z : Acc) → RowIs (load_at t (m * m) (m * 2)) z → SmallAcc z → load_at t (m * m) (m * 2) e ≤ 2000000000
           go fail y s = absurd y
@@ -156,8 +156,8 @@ module _ {τ : Cell} {links : List ℕ} {slots : List (List ℕ)} {sums : List �
   close_dead z = near_dead τ (2 * width f) (count_at sums p k) (zero_at slots p k) (one_at slots p k) 0 0 (acc τ f p) a.slot z
 
   module _ (ne : count_at sums p k ≡ 0 → ⊥) where
-    pub close-fits : zero_at slots p k ≤ τ.cu → ClosedIs τ p f (zero_at slots p k) (min (zero_at slots p k) (one_at slots p k)) 1
-    close-fits h = near_fits τ (2 * width f) (count_at sums p k) (zero_at slots p k) (one_at slots p k) (acc τ f p) a.slot ne h
+    pub close_fits : zero_at slots p k ≤ τ.cu → ClosedIs τ p f (zero_at slots p k) (min (zero_at slots p k) (one_at slots p k)) 1
+    close_fits h = near_fits τ (2 * width f) (count_at sums p k) (zero_at slots p k) (one_at slots p k) (acc τ f p) a.slot ne h
 
-    pub close-runs : Runs τ links slots p k f
-    close-runs = a.runs (slot_alive (count_at sums p k) (zero_at slots p k) (one_at slots p k) (acc τ f p) a.slot ne)
+    pub close_runs : Runs τ links slots p k f
+    close_runs = a.runs (slot_alive (count_at sums p k) (zero_at slots p k) (one_at slots p k) (acc τ f p) a.slot ne)

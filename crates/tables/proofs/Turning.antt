@@ -23,7 +23,7 @@ use Rattle.surplus.specs.Asks.{ClosedIs, AsksClose}
 use Rattle.surplus.proofs.Bounds.{acc_small, node_small, lift_small}
 use Rattle.surplus.proofs.Hanging.{slot_small, count_small}
 use Rattle.surplus.proofs.Cutting.{lift_is}
-use Rattle.surplus.proofs.Meeting.{slot_at, asks-close}
+use Rattle.surplus.proofs.Meeting.{slot_at, asks_close}
 use Rattle.surplus.proofs.Filling.{own_first, closed_at, joined_more, node_tidy, node_is}
 use Rattle.tables.specs.Turns.{SideIs, Hangs}
 
@@ -48,7 +48,7 @@ module _ {c : Cell} (ok : CellOk c) {n : Net} (sound : SoundNet n) {links : List
   slot_low = omega (arith, first.low, sound.few)
 
   pub closes : (p : ℕ) → p ≤ 1 → AsksClose (model_of c) links slots sums p k (under n i)
-  closes p lp = asks-close (model_of c) ok.eq ok.pos ok.small sound w lp (suc i) i k (omega arith) (omega arith) h first
+  closes p lp = asks_close (model_of c) ok.eq ok.pos ok.small sound w lp (suc i) i k (omega arith) (omega arith) h first
 
   -- both polarities are noted
   pub noted : {near : List (List ℕ)} (j : ℕ) → NodesClosed (model_of c) n near (suc i) → (x y : Closed) → SideIs (model_of c) (kind n i) (pin n i) (polarity n i) 0 (under n i) x
@@ -66,26 +66,26 @@ module _ {c : Cell} (ok : CellOk c) {n : Net} {w : ℕ} {links : List ℕ} {slot
 
   -- its node
   module _ {h : ℕ} (e : h ≡ head_at links i) where
-    pub node-low : h < most_places
-    node-low = slot_low ok g.sound g.joined g.here e
+    pub node_low : h < most_places
+    node_low = slot_low ok g.sound g.joined g.here e
 
-    pub node-count : (p : ℕ) → p ≤ 1 → count_at sums p h ≤ 100000000001
-    node-count p lp =
+    pub node_count : (p : ℕ) → p ≤ 1 → count_at sums p h ≤ 100000000001
+    node_count p lp =
         count_small slots sums p h (acc (model_of c) (under n i) p) (closes ok g.sound g.joined g.here e p lp).slot
         (acc_small (model_of c) ok.eq ok.pos ok.small g.sound (places n - suc i) i p (omega (arith, g.here)) lp)
 
-    node-state : (p : ℕ) → p ≤ 1 → node_at (model_of c) n i p ≡ near_state (count_at sums p h) (field near p i 0) (field near p i 1) (field near p i 2)
-    node-state p lp = rw e (node_is (model_of c) g.sound g.joined (omega arith) g.here near lp (g.closed p lp))
+    node_state : (p : ℕ) → p ≤ 1 → node_at (model_of c) n i p ≡ near_state (count_at sums p h) (field near p i 0) (field near p i 1) (field near p i 2)
+    node_state p lp = rw e (node_is (model_of c) g.sound g.joined (omega arith) g.here near lp (g.closed p lp))
 
     module _ {p : ℕ} (lp : p ≤ 1) {s : State} (q : s ≡ near_state (count_at sums p h) (field near p i 0) (field near p i 1) (field near p i 2)) where
-      pub is-node : s ≡ node_at (model_of c) n i p
-      is-node = q ∙ sym (node-state p lp)
+      pub is_node : s ≡ node_at (model_of c) n i p
+      is_node = q ∙ sym (node_state p lp)
 
-      pub is-small : SmallS 500000000000 s
-      is-small = rw is-node (node_small (model_of c) ok.eq ok.pos ok.small g.sound i p g.here lp)
+      pub is_small : SmallS 500000000000 s
+      is_small = rw is_node (node_small (model_of c) ok.eq ok.pos ok.small g.sound i p g.here lp)
 
-      pub is-falling : Falls s
-      is-falling = rw is-node (tidy_falls (model_of c) (node_at (model_of c) n i p) (node_tidy (model_of c) ok.eq ok.pos n i p))
+      pub is_falling : Falls s
+      is_falling = rw is_node (tidy_falls (model_of c) (node_at (model_of c) n i p) (node_tidy (model_of c) ok.eq ok.pos n i p))
 
   -- the wires after it under its parent
   module _ {k : ℕ} (e : k ≡ head_at links v) where
@@ -95,8 +95,8 @@ module _ {c : Cell} (ok : CellOk c) {n : Net} {w : ℕ} {links : List ℕ} {slot
         let m : max (suc i) (suc (parent n i)) ≡ suc i = omega arith in
         rw (e, g.parent) (subst (λ (z : ℕ). First n z (parent n i) (head_at links (parent n i))) m (g.joined.linked.heads (parent n i) (omega (arith, g.here))))
 
-    pub after-low : k < most_places
-    after-low = omega (arith, after.low, g.sound.few)
+    pub after_low : k < most_places
+    after_low = omega (arith, after.low, g.sound.few)
 
     pub after_small : (p : ℕ) → p ≤ 1 → SlotSmall slots sums p k
     after_small p lp =
@@ -107,26 +107,26 @@ module _ {c : Cell} (ok : CellOk c) {n : Net} {w : ℕ} {links : List ℕ} {slot
     not_own q = omega (arith, after.from (omega (arith, g.lo)), g.lo)
 
     -- they are as they were once it hangs at plus
-    pub still-small : {x : State} {slots₁ : List (List ℕ)} {sums₁ : List ℕ} → Hung 0 k i x slots sums slots₁ sums₁ → SlotSmall slots₁ sums₁ 1 k
-    still-small a = rw (a.slots_kept (side 1 k) (λ q. omega arith), a.sums_kept (side 1 k) (λ q. omega arith)) (after_small 1 (omega arith))
+    pub still_small : {x : State} {slots₁ : List (List ℕ)} {sums₁ : List ℕ} → Hung 0 k i x slots sums slots₁ sums₁ → SlotSmall slots₁ sums₁ 1 k
+    still_small a = rw (a.slots_kept (side 1 k) (λ q. omega arith), a.sums_kept (side 1 k) (λ q. omega arith)) (after_small 1 (omega arith))
 
   -- what it is worth
   module _ {s t : State} (es : s ≡ node_at (model_of c) n i 0) (et : t ≡ node_at (model_of c) n i 1) {x y : State} (ex : x ≡ wire_of (model_of c) model.inv w s t) (ey : y ≡ wire_of (model_of c) model.inv w t s) where
-    pub worth-plus : x ≡ lift_of (model_of c) n i 0
-    worth-plus = ex ∙ rw (g.size, es, et) (sym (lift_is (model_of c) n i 0 g.kind (omega arith)))
+    pub worth_plus : x ≡ lift_of (model_of c) n i 0
+    worth_plus = ex ∙ rw (g.size, es, et) (sym (lift_is (model_of c) n i 0 g.kind (omega arith)))
 
-    pub worth-minus : y ≡ lift_of (model_of c) n i 1
-    worth-minus = ey ∙ rw (g.size, es, et) (sym (lift_is (model_of c) n i 1 g.kind (omega arith)))
+    pub worth_minus : y ≡ lift_of (model_of c) n i 1
+    worth_minus = ey ∙ rw (g.size, es, et) (sym (lift_is (model_of c) n i 1 g.kind (omega arith)))
 
-    pub plus-small : SmallS 1000000000000 x
-    plus-small = rw worth-plus (small_up 100000000000 1000000000000 (lift_of (model_of c) n i 0) (omega arith) (lift_small (model_of c) ok.eq ok.pos ok.small g.sound i 0 g.here (omega arith)))
+    pub plus_small : SmallS 1000000000000 x
+    plus_small = rw worth_plus (small_up 100000000000 1000000000000 (lift_of (model_of c) n i 0) (omega arith) (lift_small (model_of c) ok.eq ok.pos ok.small g.sound i 0 g.here (omega arith)))
 
-    pub minus-small : SmallS 1000000000000 y
-    minus-small = rw worth-minus (small_up 100000000000 1000000000000 (lift_of (model_of c) n i 1) (omega arith) (lift_small (model_of c) ok.eq ok.pos ok.small g.sound i 1 g.here (omega arith)))
+    pub minus_small : SmallS 1000000000000 y
+    minus_small = rw worth_minus (small_up 100000000000 1000000000000 (lift_of (model_of c) n i 1) (omega arith) (lift_small (model_of c) ok.eq ok.pos ok.small g.sound i 1 g.here (omega arith)))
 
-    pub hung-both : (k : ℕ) {slots₁ slots₂ : List (List ℕ)} {sums₁ sums₂ links' : List ℕ} → k ≡ head_at links v → Hung 0 k i x slots sums slots₁ sums₁ → Hung 1 k i y slots₁ sums₁ slots₂ sums₂
+    pub hung_both : (k : ℕ) {slots₁ slots₂ : List (List ℕ)} {sums₁ sums₂ links' : List ℕ} → k ≡ head_at links v → Hung 0 k i x slots sums slots₁ sums₁ → Hung 1 k i y slots₁ sums₁ slots₂ sums₂
         → links' ≡ set (set links (i * 2) (head_at links v)) (v * 2 + 1) i → WiresJoined (model_of c) n links' slots₂ sums₂ i
-    hung-both k {slots₁} {slots₂} {sums₁} {sums₂} {links'} e a b el =
+    hung_both k {slots₁} {slots₂} {sums₁} {sums₂} {links'} e a b el =
         let q : k ≡ head_at links (parent n i) = e ∙ ap (head_at links) g.parent in
-        joined_more (model_of c) g.sound g.lo g.here g.joined worth-plus worth-minus (subst (λ (k : ℕ). Hung 0 k i x slots sums slots₁ sums₁) q a) (subst (λ (k : ℕ). Hung 1 k i y slots₁ sums₁ slots₂ sums₂) q b)
+        joined_more (model_of c) g.sound g.lo g.here g.joined worth_plus worth_minus (subst (λ (k : ℕ). Hung 0 k i x slots sums slots₁ sums₁) q a) (subst (λ (k : ℕ). Hung 1 k i y slots₁ sums₁ slots₂ sums₂) q b)
         (subst (λ (v : ℕ). links' ≡ set (set links (i * 2) (head_at links v)) (v * 2 + 1) i) g.parent el)

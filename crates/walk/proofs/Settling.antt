@@ -32,11 +32,11 @@ module _ {c : Cell} (ok : CellOk c) {n : Net} {w : ℕ} {sums : List ℕ} {near 
   in_places = omega (arith, t.here, t.sound.few)
 
   module _ {q : ℕ} (lq : q ≤ 1) {x : State} (e : x ≡ near_state (count_at sums q h) (field near q i 0) (field near q i 1) (field near q i 2)) where
-    pub is-node : x ≡ node_at (model_of c) n i q
-    is-node = e ∙ sym (t.node q lq)
+    pub is_node : x ≡ node_at (model_of c) n i q
+    is_node = e ∙ sym (t.node q lq)
 
-    pub is-small : SmallS 500000000000 x
-    is-small = rw is-node (node_small (model_of c) ok.eq ok.pos ok.small t.sound i q t.here lq)
+    pub is_small : SmallS 500000000000 x
+    is_small = rw is_node (node_small (model_of c) ok.eq ok.pos ok.small t.sound i q t.here lq)
 
   pub can_meet : {x y : State} → x ≡ node_at (model_of c) n i p → y ≡ node_at (model_of c) n i (1 - p) → Meets (model_of c) w x y m l
   can_meet ex ey = rw (ex, ey, t.size) (part_met (model_of c) n p i s m l k t.parts t.kind t.low t.aim)
@@ -46,9 +46,9 @@ module _ {c : Cell} (ok : CellOk c) {n : Net} {w : ℕ} {sums : List ℕ} {near 
     pub some : (x' : State) (x g f : ℕ) → x' ≡ node_at (model_of c) n i q → Under x' x g f → 1 ≤ field near q i 2
     some x' x g f ex u = over_some (count_at sums q h) (field near q i 0) (field near q i 1) (field near q i 2) x g f (subst (λ (y : State). Under y x g f) (ex ∙ t.node q lq) u)
 
-    decided-at : (π x f r e : ℕ) → model.turn (model_of c).kind p (r + k) ≡ q → Met (model_of c) π (wire n i) (node_at (model_of c) n i q) m l x f r
+    decided_at : (π x f r e : ℕ) → model.turn (model_of c).kind p (r + k) ≡ q → Met (model_of c) π (wire n i) (node_at (model_of c) n i q) m l x f r
         → Owes x (field near q i 0) (field near q i 1) (field near q i 2 - 1) e → Decided (model_of c) n p s i t.parts q e f r k
-    decided-at π x f r e turns o w =
+    decided_at π x f r e turns o w =
         let y : 1 ≤ field near q i 2 = some (node_at (model_of c) n i q) x o.n f refl o.under in
         record {
           sense = lq;
@@ -67,13 +67,13 @@ module _ {c : Cell} (ok : CellOk c) {n : Net} {w : ℕ} {sums : List ℕ} {near 
       → Decided (model_of c) n p s i t.parts p e f r k
   decided_same {y} x f r e ey o w =
       let o' = subst (λ (z : State). Met (model_of c) 0 (wire n i) z m l x f r) ey (subst (λ (v : ℕ). Met (model_of c) 0 v y m l x f r) t.size o) in
-      decided-at t.low 0 x f r e (kind_is (r + k) ∙ turn_same (model_of c) p (wire n i) f r k t.low o'.is t.aim.turns) o' w
+      decided_at t.low 0 x f r e (kind_is (r + k) ∙ turn_same (model_of c) p (wire n i) f r k t.low o'.is t.aim.turns) o' w
 
   pub decided_other : {y : State} (x f r e : ℕ) → y ≡ node_at (model_of c) n i (1 - p) → Met (model_of c) 1 w y m l x f r → Owes x (field near (1 - p) i 0) (field near (1 - p) i 1) (field near (1 - p) i 2 - 1) e
       → Decided (model_of c) n p s i t.parts (1 - p) e f r k
   decided_other {y} x f r e ey o w =
       let o' = subst (λ (z : State). Met (model_of c) 1 (wire n i) z m l x f r) ey (subst (λ (v : ℕ). Met (model_of c) 1 v y m l x f r) t.size o) in
-      decided-at (omega arith) 1 x f r e (kind_is (r + k) ∙ turn_other (model_of c) p (wire n i) f r k t.low o'.is t.aim.turns) o' w
+      decided_at (omega arith) 1 x f r e (kind_is (r + k) ∙ turn_other (model_of c) p (wire n i) f r k t.low o'.is t.aim.turns) o' w
 
 -- where no inverter stands, no load matters
 bare : (τ : model.Cell) (w f f' : ℕ) → offsets τ w f 0 0 ≡ offsets τ w f' 0 0
@@ -147,11 +147,11 @@ module _ {c : Cell} (ok : CellOk c) {n : Net} {w : ℕ} {links : List ℕ} {slot
     there : (f : ℕ) × Met (model_of c) 0 w x t.parts.m t.parts.a 0 f 0
     there = met x refl y
 
-    pub stays-some : 1 ≤ field near p i 2
-    stays-some = some ok own t.low x 0 there.1.n there.0 (is-node ok own t.low ex) there.1.under
+    pub stays_some : 1 ≤ field near p i 2
+    stays_some = some ok own t.low x 0 there.1.n there.0 (is_node ok own t.low ex) there.1.under
 
-    pub decided-bare : (r : ℕ) → Owes 0 (field near p i 0) (field near p i 1) (field near p i 2 - 1) r → Decided (model_of c) n p s i t.parts p r 0 0 0
+    pub decided_bare : (r : ℕ) → Owes 0 (field near p i 0) (field near p i 1) (field near p i 2 - 1) r → Decided (model_of c) n p s i t.parts p r 0 0 0
     unfolding own targeted
-    decided-bare r u =
-        let d = decided_same ok own 0 there.0 0 r (is-node ok own t.low ex) there.1 u in
+    decided_bare r u =
+        let d = decided_same ok own 0 there.0 0 r (is_node ok own t.low ex) there.1 u in
         record { sense = d.sense; live = d.live; sink = d.sink; below = d.below; load = d.load; ok = λ a eo. d.ok a (eo ∙ bare (model_of c) (wire n i) 0 there.0) }

@@ -18,9 +18,9 @@ use Rattle.surplus.specs.Tables.{head_at, WiresJoined, NodesClosed}
 use Rattle.surplus.specs.Asks.{part_at, Asks, Out}
 use Rattle.surplus.specs.Descent.{Cutting, Decided}
 use Rattle.walk.specs.Steps.{Handed}
-use Rattle.surplus.proofs.Meeting.{asks-under}
+use Rattle.surplus.proofs.Meeting.{asks_under}
 use Rattle.surplus.proofs.Filling.{own_first}
-use Rattle.surplus.proofs.Descending.{sense_at, Descent, lower, sense_low, part_few, own_parts, parts_clear, room, descent-on, dealt-none, dealt-kept}
+use Rattle.surplus.proofs.Descending.{sense_at, Descent, lower, sense_low, part_few, own_parts, parts_clear, room, descent_on, dealt_none, dealt_kept}
 
 module _ {c : Cell} (ok : CellOk c) (one : c.repeater ≡ 1) {n : Net} (sound : SoundNet n) {links : List ℕ} {slots : List (List ℕ)} {sums : List ℕ} {near : List (List ℕ)}
     (w : WiresJoined (model_of c) n links slots sums 1) (cl : NodesClosed (model_of c) n near 0)
@@ -52,7 +52,7 @@ module _ {c : Cell} (ok : CellOk c) (one : c.repeater ≡ 1) {n : Net} (sound : 
 
     pub asks : (e ≡ 0 → ⊥) → Asks (model_of c) links slots parts q (head_at links i) (under n i)
     asks ne =
-        asks-under (model_of c) ok.eq ok.pos ok.small sound w z.sense parts i (omega (arith, d.lo)) h (own_first (model_of c) sound w (omega (arith, d.lo)) h) d.parts_long (z.live (branch ne)) (parts_clear (model_of c) sound d h)
+        asks_under (model_of c) ok.eq ok.pos ok.small sound w z.sense parts i (omega (arith, d.lo)) h (own_first (model_of c) sound w (omega (arith, d.lo)) h) d.parts_long (z.live (branch ne)) (parts_clear (model_of c) sound d h)
 
     module _ {ws' os'' : List ℕ} {at' : ℕ} (ea : at' ≡ at + (r + k)) (ew : ws' ≡ sets ws at (replicate (r + k) i)) (eo : os'' ≡ sets os at (offsets (model_of c) (wire n i) f r k)) where
       next : {parts' : List ℕ} → Descent (model_of c) n senses₀ e₀ N ws₀ os₀ (set senses i q) parts' ws' os'' (suc i) at' → Descent (model_of c) n senses₀ e₀ N ws₀ os₀ (set senses i q) parts' ws' os'' (i + 1) at'
@@ -60,10 +60,10 @@ module _ {c : Cell} (ok : CellOk c) (one : c.repeater ≡ 1) {n : Net} (sound : 
 
       pub step : (parts' : List ℕ) → Handed (model_of c) links slots parts q i e parts' → Descent (model_of c) n senses₀ e₀ N ws₀ os₀ (set senses i q) parts' ws' os'' (i + 1) at'
       step parts' y = elim (ℕ_discrete e 0) [
-        | yes x ↦ rw (y.none x) (next (descent-on (model_of c) sound d h z parts ws' os'' at' d.parts_long (λ j ne. refl) (dealt-none (model_of c) sound d h z x) ea ew eo))
+        | yes x ↦ rw (y.none x) (next (descent_on (model_of c) sound d h z parts ws' os'' at' d.parts_long (λ j ne. refl) (dealt_none (model_of c) sound d h z x) ea ew eo))
         | no ne ↦
             let o : Out (model_of c) parts parts' q e (under n i) = y.dealt ne (under n i) (asks ne) in
-            next (descent-on (model_of c) sound d h z parts' ws' os'' at' o.long (dealt-kept (model_of c) sound d h z o) (λ y. o.dealt) ea ew eo)
+            next (descent_on (model_of c) sound d h z parts' ws' os'' at' o.long (dealt_kept (model_of c) sound d h z o) (λ y. o.dealt) ea ew eo)
       ]
 
 pub still_long : {τ : model.Cell} {n : Net} {senses₀ : List ℕ} {e₀ N : ℕ} {ws₀ os₀ senses parts ws os : List ℕ} {i at : ℕ} → Descent τ n senses₀ e₀ N ws₀ os₀ senses parts ws os i at → (length ws ≡ length ws₀) × (length os ≡ length os₀)

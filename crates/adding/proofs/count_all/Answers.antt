@@ -1,5 +1,5 @@
 use native.Mathlib.Omega.{arith}
-use Rattle.adding.proofs.Summing.{begins, counting_start, last-low, last-few, place-few, counting-next, counting_end}
+use Rattle.adding.proofs.Summing.{begins, counting_start, last_low, last_few, place_few, counting_next, counting_end}
 use Rattle.adding.proofs.count_all.Goals as goal
 
 pub loop-i-init : goal.loop-i-init
@@ -12,19 +12,19 @@ pub count_given-p-requires : goal.count_given-p-requires
 count_given-p-requires c = (c.requires.0, begins c.loop-i.invariant.0 c.loop-i.invariant.1.lined c.loop-i.invariant.1.lo c.loop-i-test.true c.wire_at-x.ensures, omega (arith, c.loop-i.invariant.1.few, c.loop-i-test.true, c.requires.1.wires))
 
 pub overflow_sub-x : goal.overflow_sub-x
-overflow_sub-x c = last-low c.loop-i.invariant.0 c.requires.0.eq c.requires.0.pos c.requires.0.small c.loop-i.invariant.1 c.loop-i-test.true c.wire_at-x.ensures c.count_given-p.ensures.1
+overflow_sub-x c = last_low c.loop-i.invariant.0 c.requires.0.eq c.requires.0.pos c.requires.0.small c.loop-i.invariant.1 c.loop-i-test.true c.wire_at-x.ensures c.count_given-p.ensures.1
 
 pub overflow_add-x : goal.overflow_add-x
-overflow_add-x c = omega (arith, last-few c.loop-i.invariant.0 c.requires.0.eq c.requires.0.pos c.requires.0.small c.loop-i.invariant.1 c.loop-i-test.true c.wire_at-x.ensures c.count_given-p.ensures.1)
+overflow_add-x c = omega (arith, last_few c.loop-i.invariant.0 c.requires.0.eq c.requires.0.pos c.requires.0.small c.loop-i.invariant.1 c.loop-i-test.true c.wire_at-x.ensures c.count_given-p.ensures.1)
 
 pub takes-last-requires : goal.takes-last-requires
-takes-last-requires c = (c.requires.0, last-few c.loop-i.invariant.0 c.requires.0.eq c.requires.0.pos c.requires.0.small c.loop-i.invariant.1 c.loop-i-test.true c.wire_at-x.ensures c.count_given-p.ensures.1)
+takes-last-requires c = (c.requires.0, last_few c.loop-i.invariant.0 c.requires.0.eq c.requires.0.pos c.requires.0.small c.loop-i.invariant.1 c.loop-i-test.true c.wire_at-x.ensures c.count_given-p.ensures.1)
 
 pub overflow_add-to : goal.overflow_add-to
-overflow_add-to c = omega (arith, place-few c.loop-i.invariant.0 c.requires.0.eq c.requires.0.pos c.requires.0.small c.loop-i.invariant.1 c.loop-i-test.true c.wire_at-x.ensures c.count_given-p.ensures.1, c.takes-last.ensures.1, c.requires.1.wires)
+overflow_add-to c = omega (arith, place_few c.loop-i.invariant.0 c.requires.0.eq c.requires.0.pos c.requires.0.small c.loop-i.invariant.1 c.loop-i-test.true c.wire_at-x.ensures c.count_given-p.ensures.1, c.takes-last.ensures.1, c.requires.1.wires)
 
 pub overflow_add-to-in-loop-i : goal.overflow_add-to-in-loop-i
-overflow_add-to-in-loop-i c = omega (arith, place-few c.loop-i.invariant.0 c.requires.0.eq c.requires.0.pos c.requires.0.small c.loop-i.invariant.1 c.loop-i-test.true c.wire_at-x.ensures c.count_given-p.ensures.1, c.takes-last.ensures.1, c.wire_at-x.ensures.few, c.requires.1.wires)
+overflow_add-to-in-loop-i c = omega (arith, place_few c.loop-i.invariant.0 c.requires.0.eq c.requires.0.pos c.requires.0.small c.loop-i.invariant.1 c.loop-i-test.true c.wire_at-x.ensures c.count_given-p.ensures.1, c.takes-last.ensures.1, c.wire_at-x.ensures.few, c.requires.1.wires)
 
 pub overflow_add-i : goal.overflow_add-i
 overflow_add-i c = omega (arith, c.loop-i-test.true)
@@ -33,7 +33,7 @@ pub loop-i-smaller : goal.loop-i-smaller
 loop-i-smaller c = omega (arith, c.loop-i-test.true)
 
 pub loop-i-preserved : goal.loop-i-preserved
-loop-i-preserved c = (c.loop-i.invariant.0, counting-next c.loop-i.invariant.0 c.requires.0.eq c.requires.0.pos c.requires.0.small c.loop-i.invariant.1 c.loop-i-test.true c.wire_at-x.ensures c.count_given-p.ensures.1 c.takes-last.result c.takes-last.ensures.0)
+loop-i-preserved c = (c.loop-i.invariant.0, counting_next c.loop-i.invariant.0 c.requires.0.eq c.requires.0.pos c.requires.0.small c.loop-i.invariant.1 c.loop-i-test.true c.wire_at-x.ensures c.count_given-p.ensures.1 c.takes-last.result c.takes-last.ensures.0)
 
 pub returns : goal.returns
 returns c = counting_end c.loop-i.invariant.0 c.loop-i.invariant.1 (omega arith)

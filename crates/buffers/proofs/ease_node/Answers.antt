@@ -4,7 +4,7 @@ use mathlib.Core.Path.{sym, subst}
 use lib.ListN.{get_or}
 use Rattle.states.specs.States.{model_of}
 use Rattle.buffers.specs.Easing.{Loaded}
-use Rattle.buffers.proofs.Settling.{reads, loaded, sink-over, sink-in, node_fits_lem, node_over, node_in}
+use Rattle.buffers.proofs.Settling.{reads, loaded, sink_over, sink_in, node_fits_lem, node_over, node_in}
 use Rattle.buffers.proofs.ease_node.Goals as goal
 
 pub bounds-kind-i : goal.bounds-kind-i
@@ -14,10 +14,10 @@ pub bounds-pin-i : goal.bounds-pin-i
 bounds-pin-i c = (reads c.requires.0.eq c.requires.0.pos c.requires.1.0 c.requires.1.1 c.requires.1.2).in_pins
 
 pub returns-then-c-wide : goal.returns-then-c-wide
-returns-then-c-wide c = sink-over c.requires.0.eq c.requires.0.pos (omega arith) _ (omega (arith, c.wide.ensures))
+returns-then-c-wide c = sink_over c.requires.0.eq c.requires.0.pos (omega arith) _ (omega (arith, c.wide.ensures))
 
 pub returns-then-own-eq1 : goal.returns-then-own-eq1
-returns-then-own-eq1 c = sink-in c.requires.0.eq c.requires.0.pos (omega arith) (omega (arith, c.wide.ensures))
+returns-then-own-eq1 c = sink_in c.requires.0.eq c.requires.0.pos (omega arith) (omega (arith, c.wide.ensures))
 
 pub returns-then-sum-c : goal.returns-then-sum-c
 returns-then-sum-c c = node_fits_lem c.requires.0.eq c.requires.0.pos c.if-own-eq1.false (omega (arith, c.wide-sum.ensures))

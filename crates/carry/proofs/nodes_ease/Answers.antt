@@ -1,5 +1,5 @@
 use native.Mathlib.Omega.{arith}
-use Rattle.carry.proofs.Walk.{easing_start, easing-next, easing-stop, easing_end}
+use Rattle.carry.proofs.Walk.{easing_start, easing_next, easing_stop, easing_end}
 use Rattle.carry.proofs.nodes_ease.Goals as goal
 
 pub loop-i-init : goal.loop-i-init
@@ -15,10 +15,10 @@ pub node_eases-requires : goal.node_eases-requires
 node_eases-requires c = tt
 
 pub returns-then-not-node_eases : goal.returns-then-not-node_eases
-returns-then-not-node_eases c = easing-stop c.loop-i.invariant.2 (omega arith) _ _ c.node_at-a.ensures c.node_at-b.ensures _ c.node_eases.ensures c.if-not-node_eases.true
+returns-then-not-node_eases c = easing_stop c.loop-i.invariant.2 (omega arith) _ _ c.node_at-a.ensures c.node_at-b.ensures _ c.node_eases.ensures c.if-not-node_eases.true
 
 pub loop-i-preserved : goal.loop-i-preserved
-loop-i-preserved c = (omega arith, omega arith, easing-next c.loop-i.invariant.2 (omega arith) _ _ c.node_at-a.ensures c.node_at-b.ensures _ c.node_eases.ensures c.if-not-node_eases.false)
+loop-i-preserved c = (omega arith, omega arith, easing_next c.loop-i.invariant.2 (omega arith) _ _ c.node_at-a.ensures c.node_at-b.ensures _ c.node_eases.ensures c.if-not-node_eases.false)
 
 pub returns : goal.returns
 returns c = easing_end c.loop-i.invariant.2 (omega arith) (omega arith)

@@ -1,7 +1,7 @@
 -- `carry` shows the refusal, or the placement that was carried.
 use native.Mathlib.Omega.{arith}
 use Rattle.reply.proofs.Judged.{refuses}
-use Rattle.carry_reply.proofs.Carrying.{carry_refuses, carry_passes, carry-fit, carry-tells}
+use Rattle.carry_reply.proofs.Carrying.{carry_refuses, carry_passes, carry_fit, carry_tells}
 use Rattle.carry_reply.proofs.carry.Goals as goal
 
 pub refuse-requires : goal.refuse-requires
@@ -16,11 +16,11 @@ pub tell-requires : goal.tell-requires
 tell-requires c =
     let passed = carry_passes c.args.wires.now c.args.offsets.now c.requires.polarity_value c.requires.polarity2_value c.carry-outcome.ensures c.in_default.not-Refused in
     record {
-      fit = carry-fit c.args.wires.now c.args.offsets.now c.requires.polarity_value c.requires.polarity2_value c.carry-outcome.ensures passed;
+      fit = carry_fit c.args.wires.now c.args.offsets.now c.requires.polarity_value c.requires.polarity2_value c.carry-outcome.ensures passed;
       most_text_in_bounds = c.requires.most_text_in_bounds;
     }
 
 pub returns : goal.returns
 returns c =
     let passed = carry_passes c.args.wires.now c.args.offsets.now c.requires.polarity_value c.requires.polarity2_value c.carry-outcome.ensures c.in_default.not-Refused in
-    carry-tells c.args.wires.now c.args.offsets.now c.requires.polarity_value c.requires.polarity2_value c.carry-outcome.ensures passed c.tell.ensures
+    carry_tells c.args.wires.now c.args.offsets.now c.requires.polarity_value c.requires.polarity2_value c.carry-outcome.ensures passed c.tell.ensures

@@ -3,7 +3,7 @@ use native.Mathlib.Omega.{arith}
 use Prim.Native.Nat.{ℕ, ◌-◌}
 use mathlib.Core.Path.{refl, ap, ◌∙◌}
 use Rattle.solution.specs.Answer.{placed}
-use Rattle.inverted.proofs.Rooting.{at_source, some, asks-source, begun, written_least, least_placed}
+use Rattle.inverted.proofs.Rooting.{at_source, some, asks_source, begun, written_least, least_placed}
 use Rattle.inverted.proofs.place.Goals as goal
 
 pub overflow_sub-e : goal.overflow_sub-e
@@ -17,7 +17,7 @@ hand_on-requires c =
     let (ok, one, sound, l) = c.requires.cell_ok in
     let (w, cl) = c.requires.wires_joined in
     let (r, m) = c.requires.rooted in
-    record { p_bound = (r.few, omega arith, l); asked = λ ne. record { f = _; asks = asks-source ok sound w cl r } }
+    record { p_bound = (r.few, omega arith, l); asked = λ ne. record { f = _; asks = asks_source ok sound w cl r } }
 
 pub descend-requires : goal.descend-requires
 descend-requires c =

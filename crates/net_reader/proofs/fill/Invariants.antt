@@ -6,7 +6,7 @@ use lib.ListN.{length}
 use lib.Seq.{length-sets}
 use borrow.Author.Rules.{rules}
 use Rattle.rules.specs.Net.{Net, net, node, unlimited}
-use Rattle.net_reader.proofs.Copying.{Copying, copy_start, copy-next, copy-end}
+use Rattle.net_reader.proofs.Copying.{Copying, copy_start, copy_next, copy_end}
 use Rattle.net_reader.proofs.fill.Given as goal
 
 abbrev pub invariant-loop-i : goal.invariant-loop-i

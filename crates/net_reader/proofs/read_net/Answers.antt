@@ -3,7 +3,7 @@ use native.Mathlib.Omega.{arith}
 use mathlib.Core.Path.{refl}
 use borrow.Author.Rules.{rules}
 use Rattle.rules.specs.Net.{net, unlimited}
-use Rattle.net_reader.proofs.Reading.{read_refused, read-few, read_short, read_whole, room_left, room_enough}
+use Rattle.net_reader.proofs.Reading.{read_refused, read_few, read_short, read_whole, room_left, room_enough}
 use Rattle.net_reader.proofs.read_net.Goals as goal
 
 pub judge_file-judged-requires : goal.judge_file-judged-requires
@@ -17,7 +17,7 @@ returns-then-most-places c = read_short c.args.s.now (net unlimited c.args.paren
 
 pub fill-requires : goal.fill-requires
 fill-requires c = (
-  omega (arith, read-few c.args.s.now (net unlimited c.args.parent.now c.args.wire.now c.args.kind.now c.args.pin.now c.args.polarity.now) c.judge_file-judged.ensures c.in-Read.is),
+  omega (arith, read_few c.args.s.now (net unlimited c.args.parent.now c.args.wire.now c.args.kind.now c.args.pin.now c.args.polarity.now) c.judge_file-judged.ensures c.in-Read.is),
   omega (arith, c.shortest-most.ensures, c.if-most-places.false),
 )
 

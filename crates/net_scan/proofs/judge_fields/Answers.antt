@@ -3,8 +3,8 @@ use native.Mathlib.Omega.{arith}
 use mathlib.Core.Path.{sym, ap, ◌∙◌}
 use borrow.Author.Rules.{rules}
 use Rattle.rules.specs.Net.{Net, net, unlimited}
-use Rattle.net_scan.proofs.Judging.{Judging, start, stop-wrong, stop-end, ends, stop-node, fits, next-node}
-use Rattle.net_scan.proofs.Filling.{Filling, fill_start, fill-next, fill-last}
+use Rattle.net_scan.proofs.Judging.{Judging, start, stop_wrong, stop_end, ends, stop_node, fits, next_node}
+use Rattle.net_scan.proofs.Filling.{Filling, fill_start, fill_next, fill_last}
 use Rattle.net_file.proofs.ReadWrite.{end_inside}
 use Rattle.net_scan.proofs.Leaving.{refused_file, sound_file}
 use Rattle.net_scan.proofs.judge_fields.Goals as goal
@@ -16,7 +16,7 @@ pub admit-here-requires : goal.admit-here-requires
 admit-here-requires c = (omega (arith, c.loop-d.invariant.0.fuel, c.loop-d.invariant.0.long), c.loop-d.invariant.0.tallied.long)
 
 pub returns-in-Refused-here : goal.returns-in-Refused-here
-returns-in-Refused-here c = refused_file (stop-node _ _ c.loop-d.invariant.0 (sym c.take_node-taken.ensures ∙ c.in-Node.is) c.admit-here.ensures _ c.in-Refused-here.is)
+returns-in-Refused-here c = refused_file (stop_node _ _ c.loop-d.invariant.0 (sym c.take_node-taken.ensures ∙ c.in-Node.is) c.admit-here.ensures _ c.in-Refused-here.is)
 
 pub tally-requires : goal.tally-requires
 tally-requires c =
@@ -37,8 +37,8 @@ loop-d-smaller c = omega (arith, c.loop-d.invariant.0.fuel)
 pub loop-d-preserved : goal.loop-d-preserved
 loop-d-preserved c =
     let e = sym c.take_node-taken.ensures ∙ c.in-Node.is in (
-      next-node _ _ c.loop-d.invariant.0 e c.admit-here.ensures c.in_default.is (ap (λ (n : Net). n.kinds) c.put_node.ensures) c.tally.ensures,
-      fill-next _ _ _ c.loop-d.invariant.1 (omega (arith, c.loop-d.invariant.0.fuel)) e c.put_node.ensures,
+      next_node _ _ c.loop-d.invariant.0 e c.admit-here.ensures c.in_default.is (ap (λ (n : Net). n.kinds) c.put_node.ensures) c.tally.ensures,
+      fill_next _ _ _ c.loop-d.invariant.1 (omega (arith, c.loop-d.invariant.0.fuel)) e c.put_node.ensures,
     )
 
 pub overflow_add-at : goal.overflow_add-at
@@ -48,12 +48,12 @@ pub finish-end-requires : goal.finish-end-requires
 finish-end-requires c = (omega (arith, c.loop-d.invariant.0.fuel, c.loop-d.invariant.0.long), c.loop-d.invariant.0.tallied.long, omega (arith, c.loop-d.invariant.0.fuel))
 
 pub returns-in-Refused-end : goal.returns-in-Refused-end
-returns-in-Refused-end c = refused_file (stop-end _ _ c.loop-d.invariant.0 (sym c.take_node-taken.ensures ∙ c.in-End.is) c.finish-end.ensures _ c.in-Refused-end.is)
+returns-in-Refused-end c = refused_file (stop_end _ _ c.loop-d.invariant.0 (sym c.take_node-taken.ensures ∙ c.in-End.is) c.finish-end.ensures _ c.in-Refused-end.is)
 
 pub returns-in-End : goal.returns-in-End
 returns-in-End c =
     let q = sym c.take_node-taken.ensures ∙ c.in-End.is in
-    sound_file (ends _ _ c.loop-d.invariant.0 q c.finish-end.ensures c.in_default-end.is) c.requires (fill-last _ _ _ c.loop-d.invariant.1 (omega (arith, c.loop-d.invariant.0.fuel)) q)
+    sound_file (ends _ _ c.loop-d.invariant.0 q c.finish-end.ensures c.in_default-end.is) c.requires (fill_last _ _ _ c.loop-d.invariant.1 (omega (arith, c.loop-d.invariant.0.fuel)) q)
 
 pub returns-in-Refused : goal.returns-in-Refused
-returns-in-Refused c = refused_file (stop-wrong _ _ c.loop-d.invariant.0 _ (sym c.take_node-taken.ensures ∙ c.in-Refused.is))
+returns-in-Refused c = refused_file (stop_wrong _ _ c.loop-d.invariant.0 _ (sym c.take_node-taken.ensures ∙ c.in-Refused.is))

@@ -4,8 +4,8 @@ use native.Mathlib.Omega.{arith}
 use mathlib.Core.Path.{sym, ap, ◌∙◌}
 use borrow.Author.Rules.{rules}
 use Rattle.rules.specs.Net.{Net, net, unlimited}
-use Rattle.net_scan.proofs.Judging.{Judging, start, stop-wrong, stop-end, ends, stop-node, fits, next-node}
-use Rattle.net_scan.proofs.Filling.{Filling, fill_start, fill-next, fill-last}
+use Rattle.net_scan.proofs.Judging.{Judging, start, stop_wrong, stop_end, ends, stop_node, fits, next_node}
+use Rattle.net_scan.proofs.Filling.{Filling, fill_start, fill_next, fill_last}
 use Rattle.net_file.proofs.ReadWrite.{end_inside}
 use Rattle.net_scan.proofs.Leaving.{refused_file, sound_file}
 use Rattle.net_scan.proofs.judge_fields.Given as goal

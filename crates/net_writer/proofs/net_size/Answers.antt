@@ -7,7 +7,7 @@ use Rattle.rules.specs.Net.{net, node, unlimited}
 use Rattle.field.specs.declared.Value.{Value}
 use Rattle.field.specs.Format.{bytes_of}
 use Rattle.net_file.specs.NetFile.{field_of}
-use Rattle.net_writer.proofs.Writing.{Counting, count_next, count-end}
+use Rattle.net_writer.proofs.Writing.{Counting, count_next, count_end}
 use Rattle.net_writer.proofs.net_size.Goals as goal
 
 pub loop-i-init : goal.loop-i-init
@@ -23,4 +23,4 @@ pub overflow_add-size : goal.overflow_add-size
 overflow_add-size c = let k = (loop-i-preserved c).1.few in omega (arith, k, c.loop-i-test.true, c.requires.few)
 
 pub returns : goal.returns
-returns c = let e = count-end _ _ c.loop-i.invariant.1 c.loop-i-test.false in omega arith
+returns c = let e = count_end _ _ c.loop-i.invariant.1 c.loop-i-test.false in omega arith

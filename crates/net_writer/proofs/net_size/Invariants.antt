@@ -8,7 +8,7 @@ use Rattle.rules.specs.Net.{net, node, unlimited}
 use Rattle.field.specs.declared.Value.{Value}
 use Rattle.field.specs.Format.{bytes_of}
 use Rattle.net_file.specs.NetFile.{field_of}
-use Rattle.net_writer.proofs.Writing.{Counting, count_next, count-end}
+use Rattle.net_writer.proofs.Writing.{Counting, count_next, count_end}
 use Rattle.net_writer.proofs.net_size.Given as goal
 
 abbrev pub invariant-loop-i : goal.invariant-loop-i

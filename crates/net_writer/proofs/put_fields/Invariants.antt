@@ -11,7 +11,7 @@ use Rattle.field.specs.Format.{bytes_of}
 use Rattle.field.proofs.Parts.{put_back}
 use Rattle.field.proofs.Writing.{laid_whole}
 use Rattle.net_file.specs.NetFile.{field_of}
-use Rattle.net_writer.proofs.Writing.{Left, Putting, put-start, room_next, put_next, room-end, put-end, put_all}
+use Rattle.net_writer.proofs.Writing.{Left, Putting, put_start, room_next, put_next, room_end, put_end, put_all}
 use Rattle.net_writer.proofs.put_fields.Given as goal
 
 abbrev pub invariant-loop-i : goal.invariant-loop-i

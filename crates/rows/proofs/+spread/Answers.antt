@@ -6,7 +6,7 @@ use lib.ListN.{length-set}
 use lib.Seq.{get_or-set_same}
 use Rattle.rules.specs.Figures.{most_children}
 use Rattle.surplus.specs.Wires.{rest}
-use Rattle.surplus.proofs.Tails.{runs_low, rows_none, tail-runs, tail-falls, wire_small, tail-few, tail-small, rows_more}
+use Rattle.surplus.proofs.Tails.{runs_low, rows_none, tail_runs, tail_falls, wire_small, tail_few, tail_small, rows_more}
 use Rattle.rows.proofs.+spread.Goals as goal
 
 pub bounds-rows-0 : goal.bounds-rows-0
@@ -32,7 +32,7 @@ spread-m-requires t c =
     let a = c.requires.running.runs in
     let ne = c.if-k-eq0.false in
     let q = c.place-next.ensures in
-    (omega (arith, c.decreases, tail-falls a ne _ q), (c.requires.p_bound, record { f = rest c.requires.running.f; runs = tail-runs a ne _ q }))
+    (omega (arith, c.decreases, tail_falls a ne _ q), (c.requires.p_bound, record { f = rest c.requires.running.f; runs = tail_runs a ne _ q }))
 
 pub loads_of-l-requires : goal.loads_of-l-requires
 loads_of-l-requires t c = (c.requires.p_bound.0, runs_low c.requires.running.runs)
@@ -44,18 +44,18 @@ mix-requires t c =
     let ne = c.if-k-eq0.false in
     let w = wire_small a ne in
     let l = c.loads_of-l.ensures in
-    let m = c.spread-m.ensures.rows (rest s.f) (tail-runs a ne _ c.place-next.ensures) in
+    let m = c.spread-m.ensures.rows (rest s.f) (tail_runs a ne _ c.place-next.ensures) in
     record {
-      m_lt_most_children = (tail-few a ne _ _ m, c.spread-m.ensures.rows_len_unchanged ∙ c.requires.p_bound.1);
+      m_lt_most_children = (tail_few a ne _ _ m, c.spread-m.ensures.rows_len_unchanged ∙ c.requires.p_bound.1);
       a_bound = (omega (arith, l.0, w), omega (arith, l.1, w), omega (arith, l.2, w));
-      by_index = tail-small a ne _ _ m;
+      by_index = tail_small a ne _ _ m;
     }
 
 pub overflow_add-result : goal.overflow_add-result
 overflow_add-result t c =
     let s = c.requires.running in
     let ne = c.if-k-eq0.false in
-    let few : c.spread-m.result < most_children = tail-few s.runs ne _ _ (c.spread-m.ensures.rows (rest s.f) (tail-runs s.runs ne _ c.place-next.ensures)) in
+    let few : c.spread-m.result < most_children = tail_few s.runs ne _ _ (c.spread-m.ensures.rows (rest s.f) (tail_runs s.runs ne _ c.place-next.ensures)) in
     omega (arith, few)
 
 pub shape_of-rows : goal.shape_of-rows
@@ -68,6 +68,6 @@ returns t c =
     let u = c.mix.ensures in
     let ne = c.if-k-eq0.false in
     record {
-      rows = λ f a. rows_more a ne _ _ (r.rows (rest f) (tail-runs a ne _ c.place-next.ensures)) _ (rw (sym l.2, sym l.0, sym l.1) u);
+      rows = λ f a. rows_more a ne _ _ (r.rows (rest f) (tail_runs a ne _ c.place-next.ensures)) _ (rw (sym l.2, sym l.0, sym l.1) u);
       rows_len_unchanged = u.long ∙ r.rows_len_unchanged;
     }

@@ -1,6 +1,6 @@
 use mathlib.Core.Path.{refl, sym, ◌∙◌}
 use native.Mathlib.Omega.{arith}
-use Rattle.senses.proofs.Senses.{senses_start, senses_other, senses_same, senses_differ, senses_end, sum_most, none-to-judge, against-lowest}
+use Rattle.senses.proofs.Senses.{senses_start, senses_other, senses_same, senses_differ, senses_end, sum_most, none_to_judge, against_lowest}
 use Rattle.senses.proofs.one_sense.Goals as goal
 use Rattle.senses.proofs.one_sense.Goals.{then-kind-i-eq1+else-own-expected, else-kind-i-eq1}
 
@@ -8,7 +8,7 @@ pub first_sink-lowest-requires : goal.first_sink-lowest-requires
 first_sink-lowest-requires c = omega (arith, c.requires.sound_net.some, c.requires.sound_net.kinds_long)
 
 pub returns-then-kind-lowest : goal.returns-then-kind-lowest
-returns-then-kind-lowest c = sym (none-to-judge c.requires.sound_net c.requires.turned c.first_sink-lowest.result (c.first_sink-lowest.ensures _ refl) c.if-kind-lowest.true)
+returns-then-kind-lowest c = sym (none_to_judge c.requires.sound_net c.requires.turned c.first_sink-lowest.result (c.first_sink-lowest.ensures _ refl) c.if-kind-lowest.true)
 
 pub loop-i-init : goal.loop-i-init
 loop-i-init c = (omega arith, omega (arith, c.requires.sound_net.some, c.requires.sound_net.kinds_long), λ limits t. senses_start)
@@ -22,7 +22,7 @@ sense-expected-requires c = (omega (arith, c.requires.sound_net.few, c.requires.
 pub returns-then-own-expected : goal.returns-then-own-expected
 returns-then-own-expected c =
     senses_differ c.requires.turned (c.loop-i.invariant.2 _ c.requires.turned) (omega arith) (omega (arith, c.requires.sound_net.kinds_long)) c.if-kind-i-eq1.true (λ e. c.if-own-expected.true (c.sense-own.ensures ∙ e ∙ sym c.sense-expected.ensures))
-    ∙ sym (against-lowest c.requires.sound_net c.requires.turned c.first_sink-lowest.result (c.first_sink-lowest.ensures _ refl) (omega arith))
+    ∙ sym (against_lowest c.requires.sound_net c.requires.turned c.first_sink-lowest.result (c.first_sink-lowest.ensures _ refl) (omega arith))
 
 pub loop-i-preserved : goal.loop-i-preserved
 loop-i-preserved c = (
@@ -37,4 +37,4 @@ loop-i-preserved c = (
 )
 
 pub returns : goal.returns
-returns c = senses_end c.requires.turned (c.loop-i.invariant.2 _ c.requires.turned) (omega arith) (omega arith) ∙ sym (against-lowest c.requires.sound_net c.requires.turned c.first_sink-lowest.result (c.first_sink-lowest.ensures _ refl) (omega arith))
+returns c = senses_end c.requires.turned (c.loop-i.invariant.2 _ c.requires.turned) (omega arith) (omega arith) ∙ sym (against_lowest c.requires.sound_net c.requires.turned c.first_sink-lowest.result (c.first_sink-lowest.ensures _ refl) (omega arith))

@@ -2,7 +2,7 @@ use Prim.Native.Nat.{◌<◌}
 use mathlib.Core.Path.{◌≡◌, refl}
 use native.Mathlib.Omega.{arith}
 use lib.ListN.{length, get_or}
-use Rattle.senses.proofs.Inverters.{turned_none, counted_none, above_most, own_most, counted-more, turned_more}
+use Rattle.senses.proofs.Inverters.{turned_none, counted_none, above_most, own_most, counted_more, turned_more}
 use Rattle.senses.proofs.turns.Goals as goal
 
 pub bounds-odd-0 : goal.bounds-odd-0
@@ -30,7 +30,7 @@ pub bounds-odd-i-in-loop-i : goal.bounds-odd-i-in-loop-i
 bounds-odd-i-in-loop-i c = omega (arith, c.requires.sound_net.0.few)
 
 pub loop-i-preserved : goal.loop-i-preserved
-loop-i-preserved c = (omega arith, omega arith, counted-more c.requires.sound_net.0 _ (c.loop-i.invariant.3 c.args.limits c.requires.sound_net.0 c.requires.sound_net.1) c.loop-i.invariant.2 (omega arith) (omega arith) _, λ limits k u. turned_more k _ (c.loop-i.invariant.3 limits k u) c.loop-i.invariant.2 (omega arith) (omega arith) _ u refl)
+loop-i-preserved c = (omega arith, omega arith, counted_more c.requires.sound_net.0 _ (c.loop-i.invariant.3 c.args.limits c.requires.sound_net.0 c.requires.sound_net.1) c.loop-i.invariant.2 (omega arith) (omega arith) _, λ limits k u. turned_more k _ (c.loop-i.invariant.3 limits k u) c.loop-i.invariant.2 (omega arith) (omega arith) _ u refl)
 
 pub returns : goal.returns
 returns c = let e : c.loop-i.i ≡ length c.args.parent.now = omega arith in rw e at (c.loop-i.invariant.3 c.args.limits c.requires.sound_net.0 c.requires.sound_net.1)

@@ -2,7 +2,7 @@
 use native.Mathlib.Omega.{arith}
 use mathlib.Core.Path.{refl, subst, ap}
 use Rattle.states.specs.States.{st, Small}
-use Rattle.surplus.proofs.Hanging.{hung_lost, hung-dead, hung-more}
+use Rattle.surplus.proofs.Hanging.{hung_lost, hung_dead, hung_more}
 use Rattle.tables.proofs.hang.Goals as goal
 
 pub returns-in_default : goal.returns-in_default
@@ -15,7 +15,7 @@ pub overflow_cast-y : goal.overflow_cast-y
 overflow_cast-y c = let h = subst (Small 1000000000000) c.in-Has.is c.requires.small.0 in record { fits = omega (arith, h.2) }
 
 pub returns-then-n-eq0 : goal.returns-then-n-eq0
-returns-then-n-eq0 c = hung-dead _ _ _ _ _ _ (omega arith) (omega arith) _ _ _ (ap st c.in-Has.is) c.if-n-eq0.true
+returns-then-n-eq0 c = hung_dead _ _ _ _ _ _ (omega arith) (omega arith) _ _ _ (ap st c.in-Has.is) c.if-n-eq0.true
 
 pub overflow_add-slots : goal.overflow_add-slots
 overflow_add-slots c = let h = subst (Small 1000000000000) c.in-Has.is c.requires.small.0 in record { fits = omega (arith, h.1, (c.requires.small.1 c.if-n-eq0.false).1) }
@@ -30,4 +30,4 @@ pub overflow_add-sums : goal.overflow_add-sums
 overflow_add-sums c = let h = subst (Small 1000000000000) c.in-Has.is c.requires.small.0 in record { fits = omega (arith, h.0, (c.requires.small.1 c.if-n-eq0.false).0) }
 
 pub returns : goal.returns
-returns c = rw c.lower.ensures (hung-more _ _ _ _ _ _ (omega arith) (omega arith) _ _ _ (ap st c.in-Has.is) _ _ _ refl refl refl c.if-n-eq0.false)
+returns c = rw c.lower.ensures (hung_more _ _ _ _ _ _ (omega arith) (omega arith) _ _ _ (ap st c.in-Has.is) _ _ _ refl refl refl c.if-n-eq0.false)

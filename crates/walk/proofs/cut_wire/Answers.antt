@@ -6,7 +6,7 @@ use mathlib.Core.Path.{subst, ap, ◌∙◌}
 use Rattle.states.specs.States.{st}
 use Rattle.surplus.specs.Tables.{count_at}
 use Rattle.walk.specs.Steps.{StaysIf}
-use Rattle.walk.proofs.Settling.{wire_low, next_low, head_low, counts, loads, count_few, head_count, targeted, aims, own_small, stays-some, decided-bare}
+use Rattle.walk.proofs.Settling.{wire_low, next_low, head_low, counts, loads, count_few, head_count, targeted, aims, own_small, stays_some, decided_bare}
 use Rattle.walk.proofs.cut_wire.Goals as goal
 
 pub overflow_mul-m : goal.overflow_mul-m
@@ -35,7 +35,7 @@ owed-requires c =
     let em = ap (λ (j : ℕ). count_at c.args.sums.now c.args.p c.args.i - count_at c.args.sums.now c.args.p j) c.place-k.ensures ∙ (counts c.requires.cell_ok.0 c.requires.cutting.1).1 in
     let ea = c.wide-a.ensures ∙ (loads c.requires.cell_ok.0 c.requires.cutting.1).0 in
     let y = subst (λ (b : Bool). StaysIf b (st c.side_of-x.result) c.args.w (count_at c.args.sums.now c.args.p c.args.i - count_at c.args.sums.now c.args.p c.place-k.result) c.wide-a.result) c.if-stays.true c.stays.ensures in
-    (c.requires.cutting.1.low, wire_low c.requires.cell_ok.0 c.requires.cutting.1, stays-some c.requires.cell_ok.0 c.requires.cutting.1 c.place-h.ensures em ea c.if-s-eq0.true c.side_of-x.ensures y)
+    (c.requires.cutting.1.low, wire_low c.requires.cell_ok.0 c.requires.cutting.1, stays_some c.requires.cell_ok.0 c.requires.cutting.1 c.place-h.ensures em ea c.if-s-eq0.true c.side_of-x.ensures y)
 
 pub returns-then-stays : goal.returns-then-stays
 returns-then-stays c =
@@ -43,7 +43,7 @@ returns-then-stays c =
     let em = ap (λ (j : ℕ). count_at c.args.sums.now c.args.p c.args.i - count_at c.args.sums.now c.args.p j) c.place-k.ensures ∙ (counts c.requires.cell_ok.0 t).1 in
     let ea = c.wide-a.ensures ∙ (loads c.requires.cell_ok.0 t).0 in
     let y = subst (λ (b : Bool). StaysIf b (st c.side_of-x.result) c.args.w (count_at c.args.sums.now c.args.p c.args.i - count_at c.args.sums.now c.args.p c.place-k.result) c.wide-a.result) c.if-stays.true c.stays.ensures in
-    decided-bare c.requires.cell_ok.0 t c.place-h.ensures em ea c.if-s-eq0.true c.side_of-x.ensures y _ c.owed.ensures
+    decided_bare c.requires.cell_ok.0 t c.place-h.ensures em ea c.if-s-eq0.true c.side_of-x.ensures y _ c.owed.ensures
 
 pub aim-g-requires : goal.aim-g-requires
 aim-g-requires c =

@@ -1,0 +1,18 @@
+-- `carry` says of the first bytes what is said of all of them.
+use mathlib.Core.Path.{sym}
+use lib.Seq.{length-take-le}
+use borrow.Author.Rules.{rules}
+use Rattle.whole.proofs.AllBytes.{same_net, same_placement, of_net, of_placement, conveyed, fits}
+use Rattle.whole.proofs.carry.Goals as goal
+
+pub slice_bounds-carry_files-end : goal.slice_bounds-carry_files-end
+slice_bounds-carry_files-end c = sym (length-take-le _ _ c.requires.net_held.0.0)
+
+pub slice_bounds-carry_files-end-2 : goal.slice_bounds-carry_files-end-2
+slice_bounds-carry_files-end-2 c = sym (length-take-le _ _ c.requires.net_held.1.0)
+
+pub slice_bounds-carry_files-end-3 : goal.slice_bounds-carry_files-end-3
+slice_bounds-carry_files-end-3 c = sym (length-take-le _ _ c.requires.net_held.2.0)
+
+pub returns : goal.returns
+returns c = ((λ s t q r u v. conveyed (λ said x. of_net (same_net c.requires.net_held.0 r) (λ n y. of_net (same_net c.requires.net_held.1 u) (λ m z. of_placement (same_placement c.requires.net_held.2 v) z) y) x) c.carry_files.ensures), fits c.carry_files.ensures)
