@@ -1,5 +1,5 @@
 -- `audit` counts each record, and ends.
-use Rattle.std.proofs.Common.{◌≡◌, ◌≤◌, ◌+◌}
+use Rattle.std.proofs.Common.{◌≤◌, ◌+◌}
 use Rattle.tally.specs.Tallied.{Sums}
 use Rattle.shelf.proofs.audit.Given as goal
 
