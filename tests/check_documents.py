@@ -26,7 +26,7 @@ CALLS = {
     "router": "mustorgyel_check",
     "field_reader": "read_field read_due",
     "field_writer": "write_field size",
-    "mustorgyel": "answer_input",
+    "mustorgyel": "answer_input answer_all",
     "whole": "solve on_files carry audit",
     "audit_line": "missing_line",
     "tally": "count tally_line status",
