@@ -5,6 +5,8 @@
 #   0         with the word 1, 2 or 3, that one of them, read from where it stands
 #   7         with the word -o, where the placement file goes
 #   3         where it writes one byte after all else was written, the status: 0 an answer, 1 a refusal
+#   8, 9, 10  in an audit, for a name that is not UTF-8, which the program cannot open: it writes the path and a 0 byte to 8, reads one byte
+#             from 9, 1 where the link was laid, and opens `link` in the folder that is open on 10
 # shellcheck shell=bash
 # shellcheck disable=SC2034,SC2154 # ended is read by the launcher's trap; runner, target and root are the launcher's
 
@@ -397,18 +399,49 @@ audit() {
         open_file -
         names=$opened folder=.
         get_ready
+        make_room
     else
         judge_folder
         get_ready
         list_records
     fi
     exec {out}>&1
-    exec {heard}< <(cd -- "$folder" && exec "${runner[@]}" "$target/bin/desk" audit "${total[@]}" <&"$names" 3>&1 >&"$out")
+    exec {served}< <(serve_program)
+    heard=$served
     listen
+    served=''
     [ ${#total[@]} -eq 0 ] || printf '\r\033[K' >&2
+    [ "$said" = "${said//-/}" ] || missed="no link could be laid in ${room:-${TMPDIR:-/tmp}} to a file whose name is not UTF-8, and none was read"
+    said=${said//-/}
     [[ $said == [01] ]] || no_answer
     [ -z "$missed" ] || fail "$missed"
     leave "$said"
+}
+
+# The program in the folder, and beside it who lays links for it. Nobody else has the pipes between them: so with one the other ends, and
+# with both what this shell hears.
+serve_program() {
+    local told links
+    exec {told}>&1 {links}<"${room:-/dev/null}"
+    coproc LINKS { lay_links; }
+    # opened anew: bash's own ends of these pipes, and copies of them, are closed where the program begins
+    cd -- "$folder" && exec "${runner[@]}" "$target/bin/desk" audit "${total[@]}" \
+        <&"$names" 3>&1 >&"$out" 8>"/dev/fd/${LINKS[1]}" 9<"/dev/fd/${LINKS[0]}" 10<&"$links"
+}
+
+# For each path that comes in, with a 0 byte after it, a link to it in the room, and a byte that goes out: 1, or 0 where no link could be
+# laid, of which this shell hears too. The program follows the link: a path goes on from the folder that it is in, whatever that is called.
+lay_links() {
+    local LC_ALL=C path # a byte is a character, and none takes in the 0 behind it
+    while IFS= read -r -d '' path; do
+        [[ $path == /* ]] || path=/proc/self/cwd/$path
+        if [ -n "$room" ] && ln -sfT -- "$path" "$room/link"; then
+            printf 1
+        else
+            printf - >&"$told"
+            printf 0
+        fi
+    done 2>/dev/null
 }
 
 # A pipe makes its reader wait for whoever writes, so an audit that met one could take for ever.

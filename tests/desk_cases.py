@@ -101,10 +101,10 @@ def failing_reads():
 
 
 def descriptors():
-    """Whatever the caller has open or closed on 3 to 7, and closed standard error."""
+    """Whatever the caller has open or closed on 3 to 10, and closed standard error."""
     read, write = os.pipe()
-    taken = {"pass_fds": range(3, 8), "preexec_fn": lambda: [os.dup2(write, number) for number in range(3, 8)]}
-    given = {"pass_fds": range(3, 8), "preexec_fn": lambda: [os.dup2(read, number) for number in range(3, 8)]}
+    taken = {"pass_fds": range(3, 11), "preexec_fn": lambda: [os.dup2(write, number) for number in range(3, 11)]}
+    given = {"pass_fds": range(3, 11), "preexec_fn": lambda: [os.dup2(read, number) for number in range(3, 11)]}
     for name, more in (("taken for writing", taken), ("taken for reading", given)):
         with room() as folder:
             # ask() has a preexec_fn of its own
@@ -354,6 +354,8 @@ def signals():
                     out, err = process.communicate(timeout=HANG)
                     expect((process.returncode, out, err) == (-number, b"", b""), f"{words[0]}: {name} to the launcher", (process.returncode, out, err))
                     expect(not runs(program), f"{words[0]}: {name} to the launcher ends the program", program)
+                left = left_in(process.pid)
+                expect(not left, f"{words[0]}: {name}, and nothing runs on", left)
                 os.close(write)
                 expect(not (folder / "x").exists(), f"{words[0]}: {name}, and no file", folder)
 
@@ -368,6 +370,21 @@ def runs(program):
             return False
         signal.sigtimedwait([], 0.05)
     return True
+
+
+def left_in(session):
+    """What still runs of all that was started in a session. It may take a moment to end."""
+    for _ in range(100):
+        found = []
+        for folder in pathlib.Path("/proc").glob("[0-9]*"):
+            with contextlib.suppress(OSError):
+                state, _, _, its = (folder / "stat").read_text().rpartition(")")[2].split()[:4]
+                if state != "Z" and int(its) == session:
+                    found.append((folder / "cmdline").read_bytes())
+        if not found:
+            break
+        signal.sigtimedwait([], 0.05)
+    return found
 
 
 def killed():
@@ -503,14 +520,67 @@ def audits():
     says("names without a 0 byte", ask_bytes(b"x" * 5000, "audit", "-"), "name")
     with open("/dev/full", "wb") as full:
         says("an audit on a full disk", ask("audit", EXAMPLES, stdout=full), "standard output")
+    names_of_any_bytes()
     progress()
 
 
-def ask_bytes(data, *words):
+def names_of_any_bytes():
+    """Records whose names are not UTF-8, and one that is; below a folder whose name is not UTF-8 either."""
+    with room() as above:
+        folder = os.fsencode(above) + b"/-\xfe\n"
+        os.makedirs(folder + b"/a\xc3")
+        found = ((b"a\xc3/\xc3.net", b"legal 1 least 1"), (b"plain.net", b"legal 1 least 1"), (b"\xff\n\\.net", b"no placement file"),
+                 (b"\xff\xfe.net", b"legal 1 least 1"))
+        for name, said in found:
+            shutil.copy(os.fsencode(EXAMPLE), os.path.join(folder, name))
+            if said.startswith(b"legal"):
+                shutil.copy(os.fsencode(PLACE), os.path.join(folder, name[:-4] + b".place"))
+        lines = [name.replace(b"\\", b"\\134").replace(b"\n", b"\\012") + b": " + said + b"\n" for name, said in found]
+        whole = b"".join(lines) + b"records 4 least 3 legal 0 refused 0 unread 1\n"
+        quiet("names of any bytes", ask("audit", folder), whole, 1)
+        quiet("names of any bytes from beside", ask("audit", "--", b"-\xfe\n", cwd=above), whole, 1)
+        listed = b"".join(os.path.join(folder, name) + b"\0" for name, _ in found)
+        shown = os.fsencode(above) + b"/-\xfe\\012/"
+        whole = whole.replace(b"\n", b"\n" + shown, 3)
+        quiet("whole paths of any bytes", ask_bytes(listed, "audit", "-"), shown + whole, 1)
+        quiet("they are not there", ask_bytes(b"\xff.net\0", "audit", "-"), b"\xff.net: no net file\nrecords 1 least 0 legal 0 refused 0 unread 1\n", 1)
+        os.mkdir(above / "own")
+        quiet("a TMPDIR from here", ask_bytes(listed, "audit", "-", cwd=above, env={"TMPDIR": "own"}), shown + whole, 1)
+        expect(not os.listdir(above / "own"), "nothing is left in it", os.listdir(above / "own"))
+        no_room_for_links(above)
+    one_link_and_a_signal()
+
+
+def no_room_for_links(folder):
+    """Then such names cannot be read, which is said; other names do without."""
+    nowhere = {"TMPDIR": str(folder / "nowhere")}
+    quiet("no TMPDIR and plain names", ask_bytes(os.fsencode(EXAMPLE) + b"\0", "audit", "-", env=nowhere),
+          os.fsencode(EXAMPLE) + b": legal 1 least 1\nrecords 1 least 1 legal 0 refused 0 unread 0\n")
+    status, out, err = ask_bytes(b"\xff.net\0", "audit", "-", env=nowhere)
+    due = b"\xff.net: net file unreadable\nrecords 1 least 0 legal 0 refused 0 unread 1\n"
+    expect((status, out) == (2, due) and re.fullmatch("mustorgyel: [^\n]*UTF-8[^\n]*\n", err), "no TMPDIR and another name", (status, out, err))
+
+
+def one_link_and_a_signal():
+    """A signal after a link was laid: neither it nor who laid it is left."""
+    for name in ("TERM", "INT", "HUP"):
+        with room() as folder:
+            process, write = start(folder, "audit", "-")
+            os.write(write, b"\xff.net\0")
+            line = process.stdout.readline()
+            os.kill(process.pid, getattr(signal, f"SIG{name}"))
+            _, err = process.communicate(timeout=HANG)
+            expect((line, process.returncode, err) == (b"\xff.net: no net file\n", -getattr(signal, f"SIG{name}"), b""), f"a link and {name}", (line, err))
+            os.close(write)
+            left = left_in(process.pid), os.listdir(os.environ["TMPDIR"])
+            expect(not any(left), f"nothing is left after a link and {name}", left)
+
+
+def ask_bytes(data, *words, **more):
     with tempfile.TemporaryFile() as file:
         file.write(data)
         file.seek(0)
-        return ask(*words, stdin=file)
+        return ask(*words, stdin=file, **more)
 
 
 def progress():

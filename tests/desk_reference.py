@@ -174,11 +174,7 @@ def placement_name(name):
 
 
 def read_file(folder, name, what):
-    """The bytes of a file, or what is said where there are none. The program's paths are text: it opens no other name."""
-    try:
-        name.decode()
-    except UnicodeDecodeError:
-        return None, f"{what} file unreadable"
+    """The bytes of a file, or what is said where there are none."""
     try:
         return pathlib.Path(os.fsdecode(os.path.join(os.fsencode(folder), name))).read_bytes(), None
     except FileNotFoundError:

@@ -5,7 +5,8 @@ ghost use Rattle.std.specs.Prelude.{◌+◌, ◌*◌, ◌≤◌, length, ◌≡�
 ghost use Rattle.names.specs.Names.{size_of, bytes_of};
 
 use input::Input;
-use std::io::{Error, ErrorKind, Read};
+use std::fs::OpenOptions;
+use std::io::{Error, ErrorKind, Read, Result, Write};
 use std::rt::Files;
 use std::{fs, str};
 
@@ -14,6 +15,14 @@ pub const MOST_NAME: usize = 4095;
 
 // Bytes that are read at a time.
 pub const CHUNK: usize = 65536;
+
+// Who stands in for the library, by the names that the system gives to descriptors: where a path is written to, where the answer comes
+// from, and the link, in the folder that is open there.
+const ASKED: &str = "/dev/fd/8";
+
+const ANSWERED: &str = "/dev/fd/9";
+
+const LINK: &str = "/dev/fd/10/link";
 
 #[derive(Clone, Copy)]
 pub enum Name {
@@ -150,16 +159,51 @@ pub fn put_name(out: &mut [u8], name: &[u8]) -> usize
     at
 }
 
-// The first bytes of the file of a name. A path is text: of a name that is none there is nothing to be read.
+// The first bytes of the file of a name. The library opens only what is text: for other names somebody stands in, where there is anybody.
 pub fn read_file<F: Files>(files: &F, path: &[u8], buffer: &mut [u8]) -> File
     ensures { bytes_of result ≤ length buffer.new }
 {
     let Ok(path) = str::from_utf8(path) else {
-        return File::Unreadable;
+        return read_linked(files, path, buffer);
     };
+    read_named(files, path, buffer)
+}
+
+fn read_named<F: Files>(files: &F, path: &str, buffer: &mut [u8]) -> File
+    ensures { bytes_of result ≤ length buffer.new }
+{
     match fs::open(files, path) {
         Ok(file) => read_opened(file, buffer),
         Err(error) => not_opened(&error),
+    }
+}
+
+// A file by the link that was laid to it. A link to nothing is a file that is missing.
+fn read_linked<F: Files>(files: &F, path: &[u8], buffer: &mut [u8]) -> File
+    ensures { bytes_of result ≤ length buffer.new }
+{
+    if ask(files, path).is_ok() && is_laid(files) {
+        return read_named(files, LINK, buffer);
+    }
+    File::Unreadable
+}
+
+// A path and a 0 byte ask for a link to it.
+fn ask<F: Files>(files: &F, path: &[u8]) -> Result<()> {
+    let mut asked = OpenOptions::new().append(true).open(files, ASKED)?;
+    asked.write_all(path)?;
+    asked.write_all(&[0])
+}
+
+// The answer is one byte. No more is read: each answer belongs to one question.
+fn is_laid<F: Files>(files: &F) -> bool {
+    let Ok(mut answered) = fs::open(files, ANSWERED) else {
+        return false;
+    };
+    let mut answer = [0u8; 1];
+    match input::read_once(&mut answered, &mut answer) {
+        Input::Bytes(count) => (count == 1) & (answer[0] == b'1'),
+        Input::Failed => false,
     }
 }
 
