@@ -102,33 +102,40 @@ shown() {
 # Opens up to three files, in order. `inputs` gets their descriptors, and one of /dev/null for each that is not there; `stream` the
 # number of the file that the program is to read from where it stands, if there is one.
 open_files() {
-    local name dashes=0
+    local name dashes=0 streams=()
     inputs=() stream=''
     for name in "$@"; do
         [ "$name" != - ] || dashes=$((dashes + 1))
         [ "$dashes" -le 1 ] || fail "standard input can be one of the files only"
         open_file "$name"
         inputs+=("$opened")
-        if [ "$name" = - ] || [ ! -f "/dev/fd/$opened" ]; then
-            [ -z "$stream" ] || keep_stream "${!stream}"
-            stream=${#inputs[@]}
-        fi
+        { [ "$name" != - ] && [ -f "/dev/fd/$opened" ]; } || streams+=("${#inputs[@]}")
+    done
+    for name in "${streams[@]}"; do
+        [ -z "$stream" ] || keep_stream "$stream" "${!stream}"
+        stream=$name
     done
     inputs+=("$nothing" "$nothing")
 }
 
-# Only one file can be the program's standard input. What another one gives is copied, as far as any reader looks.
-keep_stream() {
-    local kept
-    [ -n "$room" ] || need_room
-    kept=$room/stream$stream
-    copy "${inputs[stream - 1]}" "$kept" "$1"
-    exec {opened}<"$kept"
-    inputs[stream - 1]=$opened
+# Only one file can be the program's standard input. What another one gives is copied, as far as the program looks.
+keep_stream() { # NUMBER NAME
+    local most=16384 what
+    case $verb$1 in
+    check1 | loads1 | finish1) what='the net file' ;;
+    carry1) what='the first net file' ;;
+    carry2) what='the second net file' ;;
+    *) most=65536 what=$(shown "$2") ;;
+    esac
+    # whoever gives pipes alone keeps nothing anywhere: any folder will do
+    [ -n "$room" ] || make_room || TMPDIR=/dev/shm make_room || TMPDIR=/tmp make_room || need_room
+    copy "${inputs[$1 - 1]}" "$room/stream$1" "$most" "$what"
+    exec {opened}<"$room/stream$1"
+    inputs[$1 - 1]=$opened
 }
 
-copy() { # FROM TO NAME
-    beside head -c 65536 <&"$1" 2>/dev/null >"$2" || fail "$(shown "$3") could not be read to its end"
+copy() { # FROM TO MOST WHAT
+    beside head -c "$3" <&"$1" 2>/dev/null >"$2" || fail "$4 could not be read to its end"
 }
 
 open_file() {
@@ -166,7 +173,7 @@ keep_bytes() {
     for i in "${!files[@]}"; do
         is_at_hand "${files[i]}" && continue
         at[i]=$room/$i
-        copy "${inputs[i]}" "${at[i]}" "${files[i]}"
+        copy "${inputs[i]}" "${at[i]}" 65536 "$(shown "${files[i]}")"
     done
 }
 

@@ -100,6 +100,26 @@ def failing_reads():
         expect(status == 2 and re.fullmatch("mustorgyel: [^\n]*read[^\n]*\n", err), "names and then a connection that breaks", (status, err))
 
 
+def several_streams():
+    """Pipes in the place of files: only one is read as it comes, and still no folder is asked for and no file is called otherwise."""
+    def filled(path):
+        read, write = os.pipe()
+        os.write(write, path.read_bytes())
+        os.close(write)
+        return read
+
+    for env in ({}, {"TMPDIR": "/nowhere"}):
+        pipes = filled(EXAMPLE), filled(PLACE)
+        answers(f"two pipes, {env}", ask("check", *(f"/dev/fd/{pipe}" for pipe in pipes), pass_fds=pipes, env=env), LEGAL)
+        for pipe in pipes:
+            os.close(pipe)
+    pipe = filled(PLACE)
+    with open("/dev/null", "wb") as write_only:
+        asked = ask("check", "-", f"/dev/fd/{pipe}", stdin=write_only, pass_fds=[pipe])
+    expect(asked == (2, b"", "mustorgyel: the net file could not be read to its end\n"), "a net that could not be read before a pipe", asked)
+    os.close(pipe)
+
+
 def descriptors():
     """Whatever the caller has open or closed on 3 to 10, and closed standard error."""
     read, write = os.pipe()
@@ -666,8 +686,8 @@ def main():
 
 
 def ask_all():
-    for cases in (standard_output, standard_input, failing_reads, descriptors, wrong_words, file_names, written_files, refused_files, odd_targets, own_input,
-                  modes, full_disks, read_only_folders, signals, killed, late_comers, words, pages, audits, explained, twins, pictures):
+    for cases in (standard_output, standard_input, failing_reads, several_streams, descriptors, wrong_words, file_names, written_files, refused_files,
+                  odd_targets, own_input, modes, full_disks, read_only_folders, signals, killed, late_comers, words, pages, audits, explained, twins, pictures):
         cases()
 
 
