@@ -5,9 +5,9 @@ use Rattle.placement_file.proofs.Held.{Entries, placement_read, placement_refuse
 use Rattle.audit_reply.proofs.Auditing.{unread_says, read_says}
 use Rattle.audit_reply.proofs.audit_placement.Goals as goal
 
--- ---- where none was
+-- where none was
 pub returns-in-Refused : goal.returns-in-Refused
-returns-in-Refused c = unread_says ((let N' : Net = net_at c.args.limits c.args.parent c.args.wire c.args.kind c.args.pin c.args.polarity in N')) c.args.placement.now c.in-Refused.why (placement_refused c.args.placement.now c.read_placement-read.ensures (omega arith) c.in-Refused.is) c.refuse.ensures
+returns-in-Refused c = unread_says (net_at c.args.limits c.args.parent c.args.wire c.args.kind c.args.pin c.args.polarity) c.args.placement.now c.in-Refused.why (placement_refused c.args.placement.now c.read_placement-read.ensures (omega arith) c.in-Refused.is) c.refuse.ensures
 
 pub returns-in-Read : goal.returns-in-Read
-returns-in-Read c = read_says ((let N' : Net = net_at c.args.limits c.args.parent c.args.wire c.args.kind c.args.pin c.args.polarity in N')) c.args.placement.now c.in-Read.count ((let held' : Entries c.args.placement.now c.in-Read.count c.read_placement-read.new.wires c.read_placement-read.new.offsets = placement_read c.args.placement.now c.read_placement-read.ensures c.in-Read.is in held')) c.audit_net.ensures
+returns-in-Read c = read_says (net_at c.args.limits c.args.parent c.args.wire c.args.kind c.args.pin c.args.polarity) c.args.placement.now c.in-Read.count (placement_read c.args.placement.now c.read_placement-read.ensures c.in-Read.is) c.audit_net.ensures

@@ -8,16 +8,22 @@ use Rattle.solve_reply.proofs.Solving.{Places, outcome, places, replies_placed, 
 use Rattle.solve_reply.proofs.solve_net.Goals as goal
 
 pub tell-text-requires : goal.tell-text-requires
-tell-text-requires c = record { given = ((let placement' : Places ((let N' : Net = net_at c.args.limits c.args.parent c.args.wire c.args.kind c.args.pin c.args.polarity in N')) c.in-Placed.count c.solve-solved.new.wires c.solve-solved.new.offsets = places c.in-Placed.count c.requires.polarity_value ((let found' : Outcome ((let N' : Net = net_at c.args.limits c.args.parent c.args.wire c.args.kind c.args.pin c.args.polarity in N')) (replicate 4096 0) (replicate 4096 0) c.solve-solved.new.wires c.solve-solved.new.offsets c.solve-solved.result = outcome c.requires.polarity_value c.solve-solved.ensures in found')) c.in-Placed.is in placement')).given; most_text_in_bounds = c.requires.most_text_in_bounds.0 }
+tell-text-requires c =
+    let p = places c.in-Placed.count c.requires.polarity_value (outcome c.requires.polarity_value c.solve-solved.ensures) c.in-Placed.is in
+    record { given = p.given; most_text_in_bounds = c.requires.most_text_in_bounds.0 }
 
 pub write_file-size-requires : goal.write_file-size-requires
-write_file-size-requires c = let p = (let placement' : Places ((let N' : Net = net_at c.args.limits c.args.parent c.args.wire c.args.kind c.args.pin c.args.polarity in N')) c.in-Placed.count c.solve-solved.new.wires c.solve-solved.new.offsets = places c.in-Placed.count c.requires.polarity_value ((let found' : Outcome ((let N' : Net = net_at c.args.limits c.args.parent c.args.wire c.args.kind c.args.pin c.args.polarity in N')) (replicate 4096 0) (replicate 4096 0) c.solve-solved.new.wires c.solve-solved.new.offsets c.solve-solved.result = outcome c.requires.polarity_value c.solve-solved.ensures in found')) c.in-Placed.is in placement') in (p.fit, p.few, c.requires.most_text_in_bounds.1)
+write_file-size-requires c =
+    let p = places c.in-Placed.count c.requires.polarity_value (outcome c.requires.polarity_value c.solve-solved.ensures) c.in-Placed.is in
+    (p.fit, p.few, c.requires.most_text_in_bounds.1)
 
 pub returns-in-Placed : goal.returns-in-Placed
-returns-in-Placed c = replies_placed ((let placement' : Places ((let N' : Net = net_at c.args.limits c.args.parent c.args.wire c.args.kind c.args.pin c.args.polarity in N')) c.in-Placed.count c.solve-solved.new.wires c.solve-solved.new.offsets = places c.in-Placed.count c.requires.polarity_value ((let found' : Outcome ((let N' : Net = net_at c.args.limits c.args.parent c.args.wire c.args.kind c.args.pin c.args.polarity in N')) (replicate 4096 0) (replicate 4096 0) c.solve-solved.new.wires c.solve-solved.new.offsets c.solve-solved.result = outcome c.requires.polarity_value c.solve-solved.ensures in found')) c.in-Placed.is in placement')) c.tell-text.ensures c.write_file-size.ensures
+returns-in-Placed c =
+    let p = places c.in-Placed.count c.requires.polarity_value (outcome c.requires.polarity_value c.solve-solved.ensures) c.in-Placed.is in
+    replies_placed p c.tell-text.ensures c.write_file-size.ensures
 
--- ---- where none was
+-- where none was
 pub returns-in-Refused : goal.returns-in-Refused
 returns-in-Refused c =
     let room = length-replicate {A = ℕ} 4096 0 in
-    replies_refusal c.in-Refused.why (omega arith) (omega arith) ((let found' : Outcome ((let N' : Net = net_at c.args.limits c.args.parent c.args.wire c.args.kind c.args.pin c.args.polarity in N')) (replicate 4096 0) (replicate 4096 0) c.solve-solved.new.wires c.solve-solved.new.offsets c.solve-solved.result = outcome c.requires.polarity_value c.solve-solved.ensures in found')) c.in-Refused.is (c.refuse.ensures _)
+    replies_refusal c.in-Refused.why (omega arith) (omega arith) (outcome c.requires.polarity_value c.solve-solved.ensures) c.in-Refused.is (c.refuse.ensures _)
