@@ -1,6 +1,6 @@
 -- The judge's contract determines its answer: two answers that conform are equal, and so are their number and place.
 use mathlib.Core.Path.{◌≡◌, sym, ◌∙◌}
-use Rattle.rules.specs.declared.Judged.{Judged}
+use Rattle.rules.specs.Judged.{Judged}
 use Rattle.rules.specs.Net.{Net}
 use Rattle.rules.specs.Judge.{judged}
 

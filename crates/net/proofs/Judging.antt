@@ -1,4 +1,5 @@
 -- The judge's steps: what each test that was met or failed makes of the answer, and what one node more makes of the counts.
+use Rattle.std.specs.Prelude.{Ok, Err}
 use Prim.Native.Nat.{ℕ, ◌+◌, ◌≤◌, ◌<◌}
 use mathlib.Core.Path.{◌≡◌, sym, ap, subst, ◌∙◌}
 use mathlib.Core.Bool.{Bool, true, false, not}
@@ -9,16 +10,15 @@ use lib.Dec.{eqb, ltb, leb}
 use borrow.Author.Tests.{eqb-true, ltb-true, leb-true, not-true, not-false}
 use Rattle.rules.specs.declared.Refusal.{Refusal}
 use Rattle.rules.specs.declared.Refusal.TheVariants.{OutOfRange, WrongColumns}
-use Rattle.rules.specs.declared.Judged.{Judged}
-use Rattle.rules.specs.declared.Judged.TheVariants.{Sound, Refused}
+use Rattle.rules.specs.Judged.{Judged}
 use Rattle.rules.specs.declared.Node.{Node}
 use Rattle.rules.specs.Figures.{most_places}
-use Rattle.rules.specs.Net.{Net, places, parent, node}
+use Rattle.rules.specs.Net.{Net, Within, places, parent, node}
 use Rattle.rules.specs.Judge.{columns_fit, limits_in_range, source_clear, admitted, node_judged, nodes_judged, childed, judged}
 use Rattle.rules.proofs.Tests.{both_met}
 use Rattle.rules.proofs.SoundSays.{NodeSound, node_sound}
 use Rattle.screen.specs.Screened.{Passed}
-use Rattle.net.specs.Counted.{Within, Level, Tallied, NodesJudged, tree_judged}
+use Rattle.net.specs.Counted.{Level, Tallied, NodesJudged, tree_judged}
 use Rattle.screen.proofs.Tallying.{tallied_next}
 pub use Rattle.screen.proofs.Tallying.{tallied_start}
 
@@ -28,23 +28,23 @@ module _ {n : Net} {counts : List ℕ} {i : ℕ} {d : Node} {r : Judged} (t : Ta
   admit_is = e ∙ rw (is, t.each (parent n i))
 
   -- where it is Sound the parent's place can be counted in
-  pub admit_sound : Sound ≡ r → i ≤ 1025 → (d.parent < 1025) × (get_or counts d.parent 0 < 8)
+  pub admit_sound : (Ok tt) ≡ r → i ≤ 1025 → (d.parent < 1025) × (get_or counts d.parent 0 < 8)
   admit_sound s h =
       let f : NodeSound n i = node_sound n i i (sym (s ∙ admit_is)) in
       let p : d.parent ≡ parent n i = ap (λ (x : Node). x.parent) is in
       (omega (arith, f.fits.lower), rw (p, t.each (parent n i)) f.fits.narrow)
 
   -- one child more
-  pub tallied_after : Sound ≡ r → 1 ≤ i → i ≤ 1025 → {more : List ℕ} → more ≡ set counts d.parent (get_or counts d.parent 0 + 1) → Tallied n more (i + 1)
+  pub tallied_after : (Ok tt) ≡ r → 1 ≤ i → i ≤ 1025 → {more : List ℕ} → more ≡ set counts d.parent (get_or counts d.parent 0 + 1) → Tallied n more (i + 1)
   tallied_after s lo hi q =
       let f : NodeSound n i = node_sound n i i (sym (s ∙ admit_is)) in
       rw (q, is) (tallied_next t lo (omega (arith, f.fits.lower)))
 
 -- what the pass over the nodes answers where it stops, and where it comes to the end
-pub nodes_refused : {n : Net} {r : Judged} (counts : List ℕ) (x : Refusal) → r ≡ Refused x → r ≡ nodes_judged n → NodesJudged n counts r
+pub nodes_refused : {n : Net} {r : Judged} (counts : List ℕ) (x : Refusal) → r ≡ Err x → r ≡ nodes_judged n → NodesJudged n counts r
 nodes_refused counts x e is = record { is = is; counted = λ s. absurd (let z : ◌≡◌ {A = ℕ} 0 1 = cc in omega arith) }
 
-pub nodes_sound : {n : Net} {counts : List ℕ} {i : ℕ} → Level n → Tallied n counts i → places n ≤ i → i ≤ places n → Sound ≡ nodes_judged n → NodesJudged n counts Sound
+pub nodes_sound : {n : Net} {counts : List ℕ} {i : ℕ} → Level n → Tallied n counts i → places n ≤ i → i ≤ places n → (Ok tt) ≡ nodes_judged n → NodesJudged n counts (Ok tt)
 nodes_sound {n} {counts} {i} v t lo hi is = record { is = is; counted = λ s. let e : i ≡ places n = omega arith in subst (Tallied n counts) e t }
 
 -- ---- the judge, test by test
@@ -57,7 +57,7 @@ pub failed : {r t : Bool} → r ≡ t → not r ≡ true → t ≡ false
 failed {r} e q = sym e ∙ not-true r q
 
 -- columns that are level have a place for each node
-pub within : {n : Net} → Level n → (i : ℕ) → i < places n → Within i n.parents n.wires n.kinds n.pins n.polarities
+pub within : {n : Net} → Level n → (i : ℕ) → i < places n → Within n i
 within v i h = record { parents = h; wires = rw v.wires h; kinds = rw v.kinds h; pins = rw v.pins h; polarities = rw v.polarities h }
 
 module _ (n : Net) where
@@ -77,15 +77,15 @@ module _ (n : Net) where
         polarities = eqb-true _ _ q;
       }
 
-  pub judged_columns : columns_fit n ≡ false → Refused WrongColumns ≡ judged n
+  pub judged_columns : columns_fit n ≡ false → Err WrongColumns ≡ judged n
   unfolding judged
   judged_columns a = rw a
 
-  pub judged_limits : columns_fit n ≡ true → limits_in_range n.limits ≡ false → Refused (OutOfRange 0) ≡ judged n
+  pub judged_limits : columns_fit n ≡ true → limits_in_range n.limits ≡ false → Err (OutOfRange 0) ≡ judged n
   unfolding judged
   judged_limits a b = rw (a, b)
 
-  pub judged_source : columns_fit n ≡ true → limits_in_range n.limits ≡ true → source_clear n ≡ false → Refused (OutOfRange 0) ≡ judged n
+  pub judged_source : columns_fit n ≡ true → limits_in_range n.limits ≡ true → source_clear n ≡ false → Err (OutOfRange 0) ≡ judged n
   unfolding judged
   judged_source a b c = rw (a, b, c)
 
@@ -94,14 +94,14 @@ module _ (n : Net) where
   judged_rest a b c e = rw (a, b, c) e
 
   -- of the nodes and the childless: none is refused, or the first refusal
-  pub tree_passed : {r : Bool} → Passed n r → r ≡ true → Sound ≡ tree_judged n
+  pub tree_passed : {r : Bool} → Passed n r → r ≡ true → (Ok tt) ≡ tree_judged n
   unfolding tree_judged
   tree_passed p e = rw (p.nodes e, p.children e)
 
-  pub tree_nodes : (r : Judged) (x : Refusal) → r ≡ Refused x → r ≡ nodes_judged n → r ≡ tree_judged n
+  pub tree_nodes : (r : Judged) (x : Refusal) → r ≡ Err x → r ≡ nodes_judged n → r ≡ tree_judged n
   unfolding tree_judged
   tree_nodes r x e is = rw (← is, e)
 
-  pub tree_last : (r : Judged) → Sound ≡ nodes_judged n → r ≡ childed n → r ≡ tree_judged n
+  pub tree_last : (r : Judged) → (Ok tt) ≡ nodes_judged n → r ≡ childed n → r ≡ tree_judged n
   unfolding tree_judged
   tree_last r e is = rw (← e) is

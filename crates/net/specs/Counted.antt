@@ -1,33 +1,20 @@
 -- What the judge's own functions ask and say of the lists behind their arguments.
-use Rattle.std.specs.Prelude.{ℕ, ◌<◌, ◌≡◌, Bool, List, length, eqb, ltb, leb}
+use Rattle.std.specs.Prelude.{Ok, ℕ, ◌≡◌, Bool, List, eqb}
 use Rattle.rules.specs.declared.Node.{Node}
-use Rattle.rules.specs.declared.Judged.{Judged}
-use Rattle.rules.specs.declared.Judged.TheVariants.{Sound}
-use Rattle.rules.specs.Figures.{most_places}
+use Rattle.rules.specs.Judged.{Judged}
 use Rattle.rules.specs.Choose.{both}
 use Rattle.rules.specs.Net.{Net, places}
 use Rattle.rules.specs.Judge.{then_judge, nodes_judged, childed}
 pub use Rattle.screen.specs.Screened.{Level, Tallied}
 
-abbrev pub same_lengths : ℕ → ℕ → ℕ → ℕ → ℕ → Bool
-same_lengths p w k c q = both (eqb w p) (both (eqb k p) (both (eqb c p) (both (eqb q p) (both (ltb 0 p) (leb p most_places)))))
-
 -- `source_clear` of a net is this of its node 0
 abbrev pub node_clear : Node → Bool
 node_clear d = both (eqb d.parent 0) (both (eqb d.wire 0) (both (eqb d.kind 0) (both (eqb d.pin 0) (eqb d.polarity 0))))
 
--- each column has a place for node i
-pub record Within (i : ℕ) (p w k c q : List ℕ) : Type 0 where
-  pub parents : i < length p
-  pub wires : i < length w
-  pub kinds : i < length k
-  pub pins : i < length c
-  pub polarities : i < length q
-
 -- what the pass over the nodes answers, and what it has counted where all are sound
 pub record NodesJudged (n : Net) (counts : List ℕ) (r : Judged) : Type 0 where
   pub is : r ≡ nodes_judged n
-  pub counted : r ≡ Sound → Tallied n counts (places n)
+  pub counted : r ≡ (Ok tt) → Tallied n counts (places n)
 
 -- the nodes, and then the childless: what is left to judge once the source is
 unfoldable pub tree_judged : Net → Judged

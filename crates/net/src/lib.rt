@@ -1,62 +1,22 @@
 // The judge of a net's columns: the call that every other call makes first.
 #![tactic(auto)]
 
-ghost use Rattle.std.specs.Prelude.{◌≡◌, ℕ, suc, ◌+◌, ◌-◌, ◌<◌, ◌≤◌, List, length, get_or, set, eqb, ltb, leb};
-ghost use Rattle.rules.specs.Refusal.{number_of, place_of};
-ghost use Rattle.rules.specs.Net.{net_at, node, unlimited};
-ghost use Rattle.rules.specs.Judge.{limits_in_range, end_in_range, node_in_range, parent_fits, admitted, has_child, childed_by, judged};
-ghost use Rattle.net.specs.Counted.{same_lengths, node_clear, Within, Level, Tallied, NodesJudged, tree_judged};
+ghost use Rattle.std.specs.Prelude.{◌≡◌, ◌+◌, ◌<◌, ◌≤◌, length, get_or, set};
+ghost use Rattle.rules.specs.Net.{net_of};
+ghost use Rattle.rules.specs.Judge.{columns_fit, limits_in_range, end_in_range, node_in_range, parent_fits, admitted, has_child, childed_by, judged};
+ghost use Rattle.net.specs.Counted.{node_clear, Level, Tallied, NodesJudged, tree_judged};
 
-use rules::{Judged, Limits, Node, Refusal};
-
-// The number of a refusal (RULES 4.3).
-pub fn number(r: Refusal) -> u32
-    ensures { result ≡ number_of r }
-{
-    match r {
-        Refusal::FileEnds(_) => 1,
-        Refusal::NotDue(_) => 2,
-        Refusal::OutOfRange(_) => 3,
-        Refusal::WrongParent(_) => 4,
-        Refusal::Childless(_) => 5,
-        Refusal::BytesAfterEnd(_) => 6,
-        Refusal::WrongColumns => 7,
-        Refusal::NoLegalPlacement => 8,
-        Refusal::NoRoom(_) => 9,
-        Refusal::Misplaced(_) => 10,
-        Refusal::Overloaded(_) => 11,
-        Refusal::WrongParity(_) => 12,
-        Refusal::NotEased(_) => 13,
-    }
-}
-
-// Its place.
-pub fn place(r: Refusal) -> u64
-    ensures { result ≡ place_of r }
-{
-    match r {
-        Refusal::FileEnds(p) => p as u64,
-        Refusal::NotDue(p) => p as u64,
-        Refusal::OutOfRange(p) => p as u64,
-        Refusal::WrongParent(p) => p as u64,
-        Refusal::Childless(p) => p as u64,
-        Refusal::BytesAfterEnd(p) => p as u64,
-        Refusal::WrongColumns => 0,
-        Refusal::NoLegalPlacement => 0,
-        Refusal::NoRoom(needed) => needed,
-        Refusal::Misplaced(p) => p as u64,
-        Refusal::Overloaded(p) => p as u64,
-        Refusal::WrongParity(p) => p as u64,
-        Refusal::NotEased(p) => p as u64,
-    }
-}
+use rules::{LentNet, Limits, Node, Refusal};
 
 // 7: the columns are equal, not empty, and at most 1,025 long.
-fn columns_fit(parent: usize, wire: usize, kind: usize, pin: usize, polarity: usize) -> bool
-    ensures { result ≡ same_lengths parent wire kind pin polarity }
+fn columns_fit(net: &LentNet) -> bool
+    ensures { result ≡ columns_fit (net_of net.now) }
 {
-    let some = (0 < parent) & (parent <= 1025);
-    (wire == parent) & ((kind == parent) & ((pin == parent) & ((polarity == parent) & some)))
+    let places = net.parent.len();
+    let some = (0 < places) & (places <= 1025);
+    let ends = (net.kind.len() == places)
+        & ((net.pin.len() == places) & ((net.polarity.len() == places) & some));
+    (net.wire.len() == places) & ends
 }
 
 // The limits are in their ranges. The pin is doubled in 64 bits: it has no upper end of its own.
@@ -114,17 +74,17 @@ pub fn admit(
     kinds: &[u8],
     counts: &[u8; 1025],
     place: usize,
-) -> Judged
+) -> Result<(), Refusal>
     requires { (i ≤ length kinds.now) × (length counts.now ≡ 1025) }
     ensures { result ≡ admitted l d i (get_or kinds.now d.parent 0) (get_or counts.now d.parent 0) place }
 {
     if !node_in_range(l, d) {
-        return Judged::Refused(Refusal::OutOfRange(place));
+        return Err(Refusal::OutOfRange(place));
     }
     if !parent_fits(i, d.parent as usize, kinds, counts) {
-        return Judged::Refused(Refusal::WrongParent(place));
+        return Err(Refusal::WrongParent(place));
     }
-    Judged::Sound
+    Ok(())
 }
 
 // One child more of node p.
@@ -132,128 +92,68 @@ pub fn tally(counts: &mut [u8; 1025], p: usize)
     requires { (length counts.old ≡ 1025) × (p < 1025) × (get_or counts.old p 0 < 8) }
     ensures { counts.new ≡ set counts.old p (get_or counts.old p 0 + 1) }
 {
-    counts[p] = counts[p] + 1;
+    counts[p] += 1;
 }
 
 // Node i of the kind k with c children: a branch point or the source needs one.
-fn has_child(i: usize, k: u8, c: u8) -> Judged
+fn has_child(i: usize, k: u8, c: u8) -> Result<(), Refusal>
     ensures { result ≡ has_child i k c }
 {
-    if k != 0 {
-        return Judged::Sound;
+    if (k == 0) & (c == 0) {
+        return Err(Refusal::Childless(i));
     }
-    if c == 0 {
-        return Judged::Refused(Refusal::Childless(i));
-    }
-    Judged::Sound
+    Ok(())
 }
 
 // The nodes 0 to n - 1: the lowest childless one is refused.
-pub fn all_childed(kinds: &[u8], counts: &[u8; 1025], n: usize) -> Judged
+pub fn all_childed(kinds: &[u8], counts: &[u8; 1025], n: usize) -> Result<(), Refusal>
     requires { (n ≤ length kinds.now) × (length counts.now ≡ 1025) × (n ≤ 1025) }
     ensures { result ≡ childed_by (λ j. get_or kinds.now j 0) (λ j. get_or counts.now j 0) n }
 {
-    let mut i: usize = 0;
-    while i < n {
-        let here = has_child(i, kinds[i], counts[i]);
-        if let Judged::Refused(_) = here {
-            return here;
-        }
-        i += 1;
+    for i in 0..n {
+        has_child(i, kinds[i], counts[i])?;
     }
-    Judged::Sound
-}
-
-// Node i of the columns.
-pub fn node_at(
-    parent: &[u16],
-    wire: &[u32],
-    kind: &[u8],
-    pin: &[u32],
-    polarity: &[u8],
-    i: usize,
-) -> Node
-    requires { Within i parent.now wire.now kind.now pin.now polarity.now }
-    ensures { result ≡ node (net_at unlimited parent.entry wire.entry kind.entry pin.entry polarity.entry) i }
-{
-    Node {
-        parent: parent[i],
-        wire: wire[i],
-        kind: kind[i],
-        pin: pin[i],
-        polarity: polarity[i],
-    }
+    Ok(())
 }
 
 // The nodes from 1 up, each admitted over those before it. Where all are, `counts` holds the children of each.
-fn judge_nodes(
-    l: Limits,
-    parent: &[u16],
-    wire: &[u32],
-    kind: &[u8],
-    pin: &[u32],
-    polarity: &[u8],
-    counts: &mut [u8; 1025],
-) -> Judged
-    requires { Level (net_at l parent wire kind pin polarity) × Tallied (net_at l parent wire kind pin polarity) counts.old 1 }
-    ensures { NodesJudged (net_at l parent.entry wire.entry kind.entry pin.entry polarity.entry) counts.new result }
+fn judge_nodes(net: &LentNet, counts: &mut [u8; 1025]) -> Result<(), Refusal>
+    requires { Level (net_of net.now) × Tallied (net_of net.now) counts.old 1 }
+    ensures { NodesJudged (net_of net.now) counts.new result }
 {
-    let mut i: usize = 1;
-    while i < parent.len() {
-        let d = node_at(parent, wire, kind, pin, polarity, i);
-        let here = admit(l, d, i, kind, counts, i);
-        if let Judged::Refused(_) = here {
-            return here;
-        }
+    for i in 1..net.parent.len() {
+        let d = net.node(i);
+        admit(net.limits, d, i, net.kind, counts, i)?;
         tally(counts, d.parent as usize);
-        i += 1;
     }
-    Judged::Sound
+    Ok(())
 }
 
 // The nodes one by one, then the childless: the first refusal.
-fn judge_in_order(
-    l: Limits,
-    parent: &[u16],
-    wire: &[u32],
-    kind: &[u8],
-    pin: &[u32],
-    polarity: &[u8],
-) -> Judged
-    requires { Level (net_at l parent wire kind pin polarity) }
-    ensures { result ≡ tree_judged (net_at l parent.entry wire.entry kind.entry pin.entry polarity.entry) }
+fn judge_in_order(net: &LentNet) -> Result<(), Refusal>
+    requires { Level (net_of net.now) }
+    ensures { result ≡ tree_judged (net_of net.now) }
 {
     let mut counts = [0u8; 1025];
-    let nodes = judge_nodes(l, parent, wire, kind, pin, polarity, &mut counts);
-    if let Judged::Refused(_) = nodes {
-        return nodes;
-    }
-    all_childed(kind, &counts, parent.len())
+    judge_nodes(net, &mut counts)?;
+    all_childed(net.kind, &counts, net.parent.len())
 }
 
 // A net's columns: the first refusal in the order of RULES 5.4, or that they are sound.
-pub fn judge(
-    l: Limits,
-    parent: &[u16],
-    wire: &[u32],
-    kind: &[u8],
-    pin: &[u32],
-    polarity: &[u8],
-) -> Judged
-    ensures { result ≡ judged (net_at l parent.entry wire.entry kind.entry pin.entry polarity.entry) }
+pub fn judge(net: &LentNet) -> Result<(), Refusal>
+    ensures { result ≡ judged (net_of net.now) }
 {
-    let n = parent.len();
-    if !columns_fit(n, wire.len(), kind.len(), pin.len(), polarity.len()) {
-        return Judged::Refused(Refusal::WrongColumns);
+    if !columns_fit(net) {
+        return Err(Refusal::WrongColumns);
     }
-    if !limits_in_range(l) {
-        return Judged::Refused(Refusal::OutOfRange(0));
+    if !limits_in_range(net.limits) {
+        return Err(Refusal::OutOfRange(0));
     }
-    if !source_clear(node_at(parent, wire, kind, pin, polarity, 0)) {
-        return Judged::Refused(Refusal::OutOfRange(0));
+    if !source_clear(net.node(0)) {
+        return Err(Refusal::OutOfRange(0));
     }
-    if screen::passes(l, parent, wire, kind, pin, polarity) {
-        return Judged::Sound;
+    if screen::passes(net) {
+        return Ok(());
     }
-    judge_in_order(l, parent, wire, kind, pin, polarity)
+    judge_in_order(net)
 }

@@ -1,5 +1,6 @@
 -- On sound nets the judgement of 13 passes exactly where the second net eases the first. One way: the places of node 0 are 0 in both, the nodes were looked at,
 -- and past the columns' end there is 0. The other way: equal columns are as long, and equal at each node.
+use Rattle.std.specs.Prelude.{Ok}
 use Prim.Native.Nat.{ℕ, zero, suc, ◌-◌, ◌≤◌, ◌<◌}
 use mathlib.Core.Path.{◌≡◌, refl, sym, ap, ◌∙◌}
 use mathlib.Core.Bool.{Bool, true}
@@ -12,7 +13,6 @@ use lib.ListN.{length, get_or, get_or-eq_default}
 use lib.Seq.{ext_get_or}
 use borrow.Author.Tests.{eqb-true, leb-true, eq-eqb, le-leb}
 use Rattle.rules.specs.declared.Node.{Node}
-use Rattle.rules.specs.declared.Judged.TheVariants.{Sound}
 use Rattle.rules.specs.declared.Refusal.TheVariants.{OutOfRange, WrongColumns, NotEased}
 use Rattle.rules.specs.Choose.{both}
 use Rattle.rules.specs.Net.{Net, places, parent, wire, kind, pin, polarity, node}
@@ -32,7 +32,7 @@ record Clear (n : Net) : Type 0 where
   pin₀ : pin n 0 ≡ 0
   polarity₀ : polarity n 0 ≡ 0
 
-clear_says : (n : Net) → judged n ≡ Sound → Clear n
+clear_says : (n : Net) → judged n ≡ (Ok tt) → Clear n
 unfolding judged
 clear_says n e =
     let (a, e₁) = then_met (unless (columns_fit n) WrongColumns) _ e in
@@ -89,7 +89,7 @@ module _ (xs ys : List ℕ) (m : ℕ) (xs-long : length xs ≡ m) (ys-long : len
   ]
 
 -- ---- the whole
-pub eased_says : (n m : Net) → judged n ≡ Sound → judged m ≡ Sound → ease_judged n m ≡ Sound → Eases n m
+pub eased_says : (n m : Net) → judged n ≡ (Ok tt) → judged m ≡ (Ok tt) → ease_judged n m ≡ (Ok tt) → Eases n m
 unfolding ease_judged
 eased_says n m jn jm e =
     let (a, nodes) = then_met (unless (both (limits_ease n.limits m.limits) (eqb (places m) (places n))) (NotEased 0)) (nodes_ease n m) e in
@@ -123,7 +123,7 @@ eases_node {n} {m} e i =
     (both_true (eq-eqb (kind m i) (kind n i) (ap (λ (l : List ℕ). get_or l i 0) e.kinds))
     (both_true (le-leb (pin m i) (pin n i) (e.pins i)) (eq-eqb (polarity m i) (polarity n i) (ap (λ (l : List ℕ). get_or l i 0) e.polarities)))))
 
-says_eased : (n m : Net) → Eases n m → ease_judged n m ≡ Sound
+says_eased : (n m : Net) → Eases n m → ease_judged n m ≡ (Ok tt)
 unfolding ease_judged
 says_eased n m e =
     then_both
@@ -136,7 +136,7 @@ says_eased n m e =
     (each_sound (λ i. unless (node_eases (node n i) (node m i)) (NotEased i)) (places n - 1) 1 (λ i lo hi. unless_true (eases_node e i) (NotEased i)))
 
 -- ---- both ways
-pub eased_exactly : (n m : Net) → judged n ≡ Sound → judged m ≡ Sound → (ease_judged n m ≡ Sound) ↔ Eases n m
+pub eased_exactly : (n m : Net) → judged n ≡ (Ok tt) → judged m ≡ (Ok tt) → (ease_judged n m ≡ (Ok tt)) ↔ Eases n m
 eased_exactly n m jn jm = (eased_says n m jn jm, says_eased n m)
 
 eased_thirteen : (n m : Net) → Only (λ c. c ≡ 13) (ease_judged n m)
@@ -146,5 +146,5 @@ eased_thirteen n m =
     then_only (unless front (NotEased 0)) (nodes_ease n m) (unless_only front (NotEased 0) refl)
     (each_only (λ i. unless (node_eases (node n i) (node m i)) (NotEased i)) (places n - 1) 1 (λ i. unless_only (node_eases (node n i) (node m i)) (NotEased i) refl))
 
-pub ease_tested : (n m : Net) → judged n ≡ Sound → judged m ≡ Sound → Tests (ease_judged n m) (Eases n m) 13
+pub ease_tested : (n m : Net) → judged n ≡ (Ok tt) → judged m ≡ (Ok tt) → Tests (ease_judged n m) (Eases n m) 13
 ease_tested n m jn jm = record { exactly = eased_exactly n m jn jm; by = eased_thirteen n m }

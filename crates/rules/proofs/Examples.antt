@@ -1,11 +1,11 @@
 -- The definitions tried on nets of RULES 9: they compute, and a pin is not wire.
+use Rattle.std.specs.Prelude.{Ok, Err}
 use Prim.Native.Nat.{ℕ, ◌+◌, ◌≤◌}
 use mathlib.Core.Path.{◌≡◌, refl}
 use mathlib.Core.List.{List, [], ◌∷◌, ◌++◌}
 use native.Mathlib.Omega.{arith}
 use Rattle.rules.specs.declared.Entry.{Entry}
-use Rattle.rules.specs.declared.Judged.{Judged}
-use Rattle.rules.specs.declared.Judged.TheVariants.{Sound, Refused}
+use Rattle.rules.specs.Judged.{Judged}
 use Rattle.rules.specs.declared.Refusal.TheVariants.{Misplaced, Overloaded, WrongParity}
 use Rattle.rules.specs.Net.{Net, net}
 use Rattle.rules.specs.Tree.{hanging}
@@ -57,26 +57,26 @@ tried =
     ∷ []
 
 judged_so : tried
-    ≡ Sound
-    ∷ Refused (Overloaded 0)
-    ∷ Sound
-    ∷ Sound
-    ∷ Refused (Overloaded 0)
-    ∷ Refused (Overloaded 1)
-    ∷ Sound
-    ∷ Refused (Overloaded 0)
-    ∷ Refused (Overloaded 1)
-    ∷ Sound
-    ∷ Refused (Misplaced 1)
-    ∷ Sound
-    ∷ Sound
-    ∷ Refused (Overloaded 0)
-    ∷ Refused (Overloaded 0)
-    ∷ Refused (Misplaced 0)
-    ∷ Refused (WrongParity 2)
-    ∷ Sound
-    ∷ Refused (WrongParity 2)
-    ∷ Sound
+    ≡ (Ok tt)
+    ∷ Err (Overloaded 0)
+    ∷ (Ok tt)
+    ∷ (Ok tt)
+    ∷ Err (Overloaded 0)
+    ∷ Err (Overloaded 1)
+    ∷ (Ok tt)
+    ∷ Err (Overloaded 0)
+    ∷ Err (Overloaded 1)
+    ∷ (Ok tt)
+    ∷ Err (Misplaced 1)
+    ∷ (Ok tt)
+    ∷ (Ok tt)
+    ∷ Err (Overloaded 0)
+    ∷ Err (Overloaded 0)
+    ∷ Err (Misplaced 0)
+    ∷ Err (WrongParity 2)
+    ∷ (Ok tt)
+    ∷ Err (WrongParity 2)
+    ∷ (Ok tt)
     ∷ []
 unfolding placement_judged placed_from within_limit first_sink judge_each driven joined driven_on load_below handed_by hands_up drives offsets_on hanging on_the_way inverters
 judged_so = refl

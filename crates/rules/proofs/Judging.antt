@@ -1,38 +1,38 @@
 -- Judgements in a row: what one that tests a single thing says of the rest, and by which number the whole refuses.
+use Rattle.std.specs.Prelude.{Ok, Err}
 use Prim.Native.Nat.{ℕ, zero, suc}
 use mathlib.Core.Path.{◌≡◌, refl, subst}
 use mathlib.Core.Bool.{Bool, true, false}
 use mathlib.Core.Logic.{◌↔◌}
 use native.Mathlib.Omega.{arith}
 use Rattle.rules.specs.declared.Refusal.{Refusal}
-use Rattle.rules.specs.declared.Judged.{Judged}
-use Rattle.rules.specs.declared.Judged.TheVariants.{Sound, Refused}
+use Rattle.rules.specs.Judged.{Judged}
 use Rattle.rules.specs.Refusal.{number_of, judged_number}
 use Rattle.rules.specs.Judge.{unless, then_judge, judge_each}
 
-pub unless_true : {t : Bool} → t ≡ true → (r : Refusal) → unless t r ≡ Sound
+pub unless_true : {t : Bool} → t ≡ true → (r : Refusal) → unless t r ≡ (Ok tt)
 unless_true e r = rw e
 
-pub then_both : {a b : Judged} → a ≡ Sound → b ≡ Sound → then_judge a b ≡ Sound
+pub then_both : {a b : Judged} → a ≡ (Ok tt) → b ≡ (Ok tt) → then_judge a b ≡ (Ok tt)
 then_both p q = rw p q
 
 pub then_assoc : (a b c : Judged) → then_judge (then_judge a b) c ≡ then_judge a (then_judge b c)
-then_assoc Sound b c = refl
-then_assoc (Refused r) b c = refl
+then_assoc (Ok _) b c = refl
+then_assoc (Err r) b c = refl
 
 -- no judgement is both
-pub sound_refused : {A : Type 0} {j : Judged} {r : Refusal} → j ≡ Sound → j ≡ Refused r → A
+pub sound_refused : {A : Type 0} {j : Judged} {r : Refusal} → j ≡ (Ok tt) → j ≡ Err r → A
 sound_refused {A} {j} {r} s e = absurd (let z : ◌≡◌ {A = ℕ} 0 1 = cc in omega arith)
 
 -- ---- a judgement that refuses by these numbers alone
 pub record Only (P : ℕ → Type 0) (j : Judged) : Type 0 where
-  pub number : (r : Refusal) → j ≡ Refused r → P (number_of r)
+  pub number : (r : Refusal) → j ≡ Err r → P (number_of r)
 
 module _ {P : ℕ → Type 0} where
-  pub only_sound : Only P Sound
+  pub only_sound : Only P (Ok tt)
   only_sound = record { number = λ r e. sound_refused refl e }
 
-  only_refused : (r : Refusal) → P (number_of r) → Only P (Refused r)
+  only_refused : (r : Refusal) → P (number_of r) → Only P (Err r)
   only_refused r p = record { number = λ x e. let q : r ≡ x = cc in rw (← q) p }
 
   pub unless_only : (t : Bool) (r : Refusal) → P (number_of r) → Only P (unless t r)
@@ -40,8 +40,8 @@ module _ {P : ℕ → Type 0} where
   unless_only false r p = only_refused r p
 
   pub then_only : (a b : Judged) → Only P a → Only P b → Only P (then_judge a b)
-  then_only Sound b p q = q
-  then_only (Refused r) b p q = p
+  then_only (Ok _) b p q = q
+  then_only (Err r) b p q = p
 
   pub each_only : (f : ℕ → Judged) (k i : ℕ) → ((j : ℕ) → Only P (f j)) → Only P (judge_each f k i)
   unfolding judge_each
@@ -50,26 +50,26 @@ module _ {P : ℕ → Type 0} where
 
 -- ---- a judgement that is Sound exactly where P holds, and else refuses by the number c
 pub record Tests (j : Judged) (P : Type 0) (c : ℕ) : Type 0 where
-  pub exactly : (j ≡ Sound) ↔ P
+  pub exactly : (j ≡ (Ok tt)) ↔ P
   pub by : Only (λ k. k ≡ c) j
 
 -- so there are two cases
 pub data Tested (j : Judged) (P : Type 0) (c : ℕ) : Type 0 where
-  held : j ≡ Sound → P → Tested j P c
-  failed : {r : Refusal} → j ≡ Refused r → number_of r ≡ c → (P → ⊥) → Tested j P c
+  held : j ≡ (Ok tt) → P → Tested j P c
+  failed : {r : Refusal} → j ≡ Err r → number_of r ≡ c → (P → ⊥) → Tested j P c
 
 module _ {j : Judged} {P : Type 0} {c : ℕ} (t : Tests j P c) where
   pub tested : Tested j P c
   tested = go j refl
     where
       go : (a : Judged) → j ≡ a → Tested j P c
-      go Sound e = held e (t.exactly.0 e)
-      go (Refused r) e = failed e (t.by.number r e) (λ p. sound_refused (t.exactly.1 p) e)
+      go (Ok _) e = held e (t.exactly.0 e)
+      go (Err r) e = failed e (t.by.number r e) (λ p. sound_refused (t.exactly.1 p) e)
 
-  refuses : (P → ⊥) → (r : Refusal) × (j ≡ Refused r) × (number_of r ≡ c)
+  refuses : (P → ⊥) → (r : Refusal) × (j ≡ Err r) × (number_of r ≡ c)
   refuses not = go tested
     where
-      go : Tested j P c → (r : Refusal) × (j ≡ Refused r) × (number_of r ≡ c)
+      go : Tested j P c → (r : Refusal) × (j ≡ Err r) × (number_of r ≡ c)
       go (held e p) = absurd (not p)
       go (failed {r} e n x) = (r, e, n)
 

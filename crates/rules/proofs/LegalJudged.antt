@@ -1,4 +1,5 @@
 -- A placement passes its judgement exactly where it is legal: each of the three walks (10, 11, 12) is Sound just where what it tests holds at every step.
+use Rattle.std.specs.Prelude.{Ok}
 use Prim.Native.Nat.{ℕ, zero, suc, ◌+◌, ◌-◌, ◌≤◌, ◌<◌}
 use mathlib.Core.Path.{◌≡◌, refl, sym, ◌∙◌}
 use mathlib.Core.Bool.{Bool, true, false}
@@ -8,7 +9,6 @@ use native.Mathlib.Decide.{ℕ_discrete}
 use lib.Dec.{eqb, ltb, leb}
 use borrow.Author.Tests.{eqb-true, ltb-true, leb-true, eq-eqb, ne_eqb, lt-ltb, le-ltb, le-leb}
 use Rattle.rules.specs.declared.Entry.{Entry}
-use Rattle.rules.specs.declared.Judged.TheVariants.{Sound}
 use Rattle.rules.specs.declared.Refusal.TheVariants.{Misplaced, Overloaded, WrongParity}
 use Rattle.rules.specs.Choose.{pick, both}
 use Rattle.rules.specs.Net.{Net, places, wire, kind}
@@ -44,7 +44,7 @@ after_not_lower : (d e : Entry) → After d e → not_lower d e ≡ true
 after_not_lower d e (higher h) = rw (lt-ltb d.wire e.wire h)
 after_not_lower d e (further h l) = rw (le-ltb d.wire e.wire (omega arith), eq-eqb d.wire e.wire h, le-leb d.offset e.offset l)
 
-pub placed_order : (n : Net) (d : Entry) (k : ℕ) (p : List Entry) → placed_from n d k p ≡ Sound → InOrder n d p
+pub placed_order : (n : Net) (d : Entry) (k : ℕ) (p : List Entry) → placed_from n d k p ≡ (Ok tt) → InOrder n d p
 unfolding placed_from
 placed_order n d k [] x = tt
 placed_order n d k (e ∷ es) x =
@@ -52,7 +52,7 @@ placed_order n d k (e ∷ es) x =
     let (a, b) = both_met (on_its_wire n e) (not_lower d e) (unless_met _ (Misplaced k) here) in
     (not_lower_lem d e b, on_wire_lem n e a, placed_order n e (suc k) es rest)
 
-order_placed : (n : Net) (d : Entry) (k : ℕ) (p : List Entry) → InOrder n d p → placed_from n d k p ≡ Sound
+order_placed : (n : Net) (d : Entry) (k : ℕ) (p : List Entry) → InOrder n d p → placed_from n d k p ≡ (Ok tt)
 unfolding placed_from
 order_placed n d k [] x = refl
 order_placed n d k (e ∷ es) x = then_both (unless_true (both_true (stands_on n e x.1) (after_not_lower d e x.0)) (Misplaced k)) (order_placed n e (suc k) es x.2)
@@ -69,14 +69,14 @@ order_tested n p = record { exactly = (placed_order n start 0 p, order_placed n 
 
 -- ---- 11
 
-within_each : (limit k : ℕ) (loads : List ℕ) → within_limit limit k loads ≡ Sound → Each (λ load. load ≤ limit) loads
+within_each : (limit k : ℕ) (loads : List ℕ) → within_limit limit k loads ≡ (Ok tt) → Each (λ load. load ≤ limit) loads
 unfolding within_limit
 within_each limit k [] x = tt
 within_each limit k (load ∷ loads) x =
     let (here, rest) = then_met (unless (leb load limit) (Overloaded k)) (within_limit limit (suc k) loads) x in
     (leb-true load limit (unless_met _ (Overloaded k) here), within_each limit (suc k) loads rest)
 
-each_within : (limit k : ℕ) (loads : List ℕ) → Each (λ load. load ≤ limit) loads → within_limit limit k loads ≡ Sound
+each_within : (limit k : ℕ) (loads : List ℕ) → Each (λ load. load ≤ limit) loads → within_limit limit k loads ≡ (Ok tt)
 unfolding within_limit
 each_within limit k [] x = refl
 each_within limit k (load ∷ loads) x = then_both (unless_true (le-leb load limit x.0) (Overloaded k)) (each_within limit (suc k) loads x.1)
@@ -92,10 +92,10 @@ loads_tested limit loads = record { exactly = (within_each limit 0 loads, each_w
 
 -- ---- 12
 module _ (n : Net) (offs : ℕ → List ℕ) where
-  sense_met : (s i : ℕ) → has_sense n offs s i ≡ Sound → kind n i ≡ 1 → sense n offs i ≡ s
+  sense_met : (s i : ℕ) → has_sense n offs s i ≡ (Ok tt) → kind n i ≡ 1 → sense n offs i ≡ s
   sense_met s i x z = eqb-true (sense n offs i) s (rw (eq-eqb (kind n i) 1 z) at (unless_met (pick (eqb (kind n i) 1) (eqb (sense n offs i) s) true) (WrongParity i) x))
 
-  sense_sound : (s i : ℕ) → (kind n i ≡ 1 → sense n offs i ≡ s) → has_sense n offs s i ≡ Sound
+  sense_sound : (s i : ℕ) → (kind n i ≡ 1 → sense n offs i ≡ s) → has_sense n offs s i ≡ (Ok tt)
   sense_sound s i h = elim (ℕ_discrete (kind n i) 1) [
     | yes q ↦ rw (eq-eqb (kind n i) 1 q, eq-eqb (sense n offs i) s (h q))
     | no q ↦ rw (ne_eqb (kind n i) 1 q)
@@ -118,18 +118,18 @@ module _ (n : Net) (offs : ℕ → List ℕ) where
   lowest = first_sink n (places n - 1) 1
 
   -- no sink at all
-  pub no_sinks : 1 ≤ places n → places n ≤ lowest → one_sense n offs ≡ Sound
+  pub no_sinks : 1 ≤ places n → places n ≤ lowest → one_sense n offs ≡ (Ok tt)
   no_sinks a b =
       each_sound (has_sense n offs (sense n offs lowest)) (places n - 1) 1
       (λ j lo hi. sense_sound (sense n offs lowest) j (λ z. absurd (omega (arith, (first_is_sink (places n - 1) 1 j lo hi z).1))))
 
-  sense_one : one_sense n offs ≡ Sound → OneSense n offs
+  sense_one : one_sense n offs ≡ (Ok tt) → OneSense n offs
   sense_one x = record {
     one = sense n offs lowest;
     same = λ i s. sense_met (sense n offs lowest) i (each_met (has_sense n offs (sense n offs lowest)) (places n - 1) 1 x i s.node (omega (arith, s.within, s.node))) s.sink;
   }
 
-  pub one_sense_lem : OneSense n offs → one_sense n offs ≡ Sound
+  pub one_sense_lem : OneSense n offs → one_sense n offs ≡ (Ok tt)
   one_sense_lem o = each_sound (has_sense n offs (sense n offs lowest)) (places n - 1) 1 (λ j lo hi. sense_sound (sense n offs lowest) j (as_lowest j lo hi))
     where
       as_lowest : (j : ℕ) → 1 ≤ j → j < 1 + (places n - 1) → kind n j ≡ 1 → sense n offs j ≡ sense n offs lowest
@@ -146,13 +146,13 @@ module _ (n : Net) (offs : ℕ → List ℕ) where
       }
 
 -- ---- the whole
-pub judged_legal : (n : Net) (p : List Entry) → placement_judged n p ≡ Sound → Legal n p
+pub judged_legal : (n : Net) (p : List Entry) → placement_judged n p ≡ (Ok tt) → Legal n p
 unfolding placement_judged
 judged_legal n p x =
     let (a, y) = then_met (placed_from n start 0 p) (then_judge (within_limit n.limits.limit 0 (drivers n p)) (one_sense n (offsets_on p))) x in
     let (b, c) = then_met (within_limit n.limits.limit 0 (drivers n p)) (one_sense n (offsets_on p)) y in
     record { stands = placed_order n start 0 p a; loads = within_each n.limits.limit 0 (drivers n p) b; parity = sense_one n (offsets_on p) c }
 
-pub legal_judged : (n : Net) (p : List Entry) → Legal n p → placement_judged n p ≡ Sound
+pub legal_judged : (n : Net) (p : List Entry) → Legal n p → placement_judged n p ≡ (Ok tt)
 unfolding placement_judged
 legal_judged n p l = then_both (order_placed n start 0 p l.stands) (then_both (each_within n.limits.limit 0 (drivers n p) l.loads) (one_sense_lem n (offsets_on p) l.parity))

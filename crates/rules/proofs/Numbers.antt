@@ -1,4 +1,5 @@
 -- The numbers of a placement's judgement on a sound net, each exactly where its fault stands first; and the numbers that a net's own judgement can give.
+use Rattle.std.specs.Prelude.{Ok, Err}
 use Prim.Native.Nat.{ℕ, ◌≤◌}
 use mathlib.Core.Path.{◌≡◌, refl, sym, ap, ◌∙◌}
 use mathlib.Core.Bool.{true}
@@ -10,8 +11,7 @@ use borrow.Author.Tests.{eqb-true, leb-true, eq-eqb, le-leb}
 use Rattle.rules.specs.declared.Entry.{Entry}
 use Rattle.rules.specs.declared.Refusal.{Refusal}
 use Rattle.rules.specs.declared.Refusal.TheVariants.{WrongColumns}
-use Rattle.rules.specs.declared.Judged.{Judged}
-use Rattle.rules.specs.declared.Judged.TheVariants.{Sound, Refused}
+use Rattle.rules.specs.Judged.{Judged}
 use Rattle.rules.specs.Figures.{most_entries}
 use Rattle.rules.specs.Refusal.{number_of, place_of, judged_number, judged_place}
 use Rattle.rules.specs.Net.{Net}
@@ -99,7 +99,7 @@ columns_tested vs os = record { exactly = (λ e. says (unless_met (placement_fit
         let (a, b) = both_met (eqb (length os) (length vs)) (leb (length vs) most_entries) e in
         record { even = eqb-true (length os) (length vs) a; few = leb-true (length vs) most_entries b }
 
-    back : PlacementFits vs os → unless (placement_fits vs os) WrongColumns ≡ Sound
+    back : PlacementFits vs os → unless (placement_fits vs os) WrongColumns ≡ (Ok tt)
     back f = unless_true (both_true (eq-eqb (length os) (length vs) f.even) (le-leb (length vs) most_entries f.few)) WrongColumns
 
 -- ---- the net
@@ -107,7 +107,7 @@ columns_tested vs os = record { exactly = (λ e. says (unless_met (placement_fit
 -- k is the number by which the net's own judgement refuses
 pub record NetRefuses (n : Net) (k : ℕ) : Type 0 where
   pub refusal : Refusal
-  pub refused : judged n ≡ Refused refusal
+  pub refused : judged n ≡ Err refusal
   pub number : k ≡ number_of refusal
 
 -- so it is one of four

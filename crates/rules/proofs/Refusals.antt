@@ -1,11 +1,11 @@
 -- Every refusal's number is at least 1, so 0 is success and nothing else.
+use Rattle.std.specs.Prelude.{Ok, Err}
 use Prim.Native.Nat.{◌≤◌}
 use mathlib.Core.Path.{◌≡◌, refl}
 use native.Mathlib.Omega.{arith}
 use Rattle.rules.specs.declared.Refusal.{Refusal}
 use Rattle.rules.specs.declared.Refusal.TheVariants.{FileEnds, NotDue, OutOfRange, WrongParent, Childless, BytesAfterEnd, WrongColumns, NoLegalPlacement, NoRoom, Misplaced, Overloaded, WrongParity, NotEased}
-use Rattle.rules.specs.declared.Judged.{Judged}
-use Rattle.rules.specs.declared.Judged.TheVariants.{Sound, Refused}
+use Rattle.rules.specs.Judged.{Judged}
 use Rattle.rules.specs.Refusal.{number_of, judged_number}
 
 pub numbered : (r : Refusal) → 1 ≤ number_of r
@@ -23,6 +23,6 @@ numbered (Overloaded p) = omega arith
 numbered (WrongParity p) = omega arith
 numbered (NotEased p) = omega arith
 
-pub none_given : (j : Judged) → judged_number j ≡ 0 → j ≡ Sound
-none_given Sound e = refl
-none_given (Refused r) e = absurd (omega (arith, numbered r))
+pub none_given : (j : Judged) → judged_number j ≡ 0 → j ≡ (Ok tt)
+none_given (Ok _) e = refl
+none_given (Err r) e = absurd (omega (arith, numbered r))

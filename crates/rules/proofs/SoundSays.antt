@@ -1,4 +1,5 @@
 -- What `judged n ≡ Sound` says, fact by fact: each test of the judge was met, at every node.
+use Rattle.std.specs.Prelude.{Ok}
 use Prim.Native.Nat.{ℕ, zero, suc, ◌-◌, ◌*◌, ◌≤◌, ◌<◌}
 use mathlib.Core.Path.{◌≡◌}
 use mathlib.Core.Bool.{true}
@@ -10,7 +11,6 @@ use lib.Dec.{eqb, ltb, leb}
 use borrow.Author.Tests.{eqb-true, ltb-true, leb-true, eq-eqb, ne_eqb}
 use Rattle.rules.specs.declared.Limits.{Limits}
 use Rattle.rules.specs.declared.Node.{Node}
-use Rattle.rules.specs.declared.Judged.TheVariants.{Sound}
 use Rattle.rules.specs.declared.Refusal.TheVariants.{OutOfRange, WrongParent, Childless, WrongColumns}
 use Rattle.rules.specs.Figures.{most_limit, most_wire, most_pin, most_nodes, most_places, most_children}
 use Rattle.rules.specs.Choose.{pick, both}
@@ -74,7 +74,7 @@ module _ (n : Net) where
     pub range : InRange n.limits (node n i)
     pub fits : Fits i (parent n i) (kind n (parent n i)) (children n (i - 1) (parent n i))
 
-  pub node_sound : (i place : ℕ) → node_judged n i place ≡ Sound → NodeSound i
+  pub node_sound : (i place : ℕ) → node_judged n i place ≡ (Ok tt) → NodeSound i
   node_sound i place e =
       let (r, f) = then_met (unless (node_in_range n.limits (node n i)) (OutOfRange place)) _ e in
       record {
@@ -94,7 +94,7 @@ module _ (n : Net) where
     | no q ↦ rw (ne_eqb (parent n (suc k)) v q) (omega (arith, few_children m h k v (omega arith)))
   ]
 
-has_child_lem : (i k c : ℕ) → has_child i k c ≡ Sound → k ≡ 0 → 1 ≤ c
+has_child_lem : (i k c : ℕ) → has_child i k c ≡ (Ok tt) → k ≡ 0 → 1 ≤ c
 has_child_lem i k c e z =
     let met : pick (eqb k 0) (ltb 0 c) true ≡ true = unless_met _ (Childless i) e in
     ltb-true 0 c (rw (eq-eqb k 0 z) at met)
@@ -108,7 +108,7 @@ everywhere col m most long zero_at_lem h (suc i) = elim (dec_lt (suc i) m) [
 ]
 
 -- ---- the whole net
-module _ (n : Net) (fit : columns_fit n ≡ true) (limits : limits_in_range n.limits ≡ true) (clear : source_clear n ≡ true) (nodes : nodes_judged n ≡ Sound) (every : childed n ≡ Sound) where
+module _ (n : Net) (fit : columns_fit n ≡ true) (limits : limits_in_range n.limits ≡ true) (clear : source_clear n ≡ true) (nodes : nodes_judged n ≡ (Ok tt)) (every : childed n ≡ (Ok tt)) where
   facts : SoundNet n
   facts =
       let (w, f₁) = both_met (eqb (length n.wires) (places n)) _ fit in
@@ -151,7 +151,7 @@ module _ (n : Net) (fit : columns_fit n ≡ true) (limits : limits_in_range n.li
         childed = λ v hi z. has_child_lem v (kind n v) (children n (places n - 1) v) (each_met (λ i. has_child i (kind n i) (children n (places n - 1) i)) (places n) 0 every v (omega arith) (omega arith)) z;
       }
 
-pub sound_says : (n : Net) → judged n ≡ Sound → SoundNet n
+pub sound_says : (n : Net) → judged n ≡ (Ok tt) → SoundNet n
 unfolding judged
 sound_says n e =
     let (a, e₁) = then_met (unless (columns_fit n) WrongColumns) _ e in

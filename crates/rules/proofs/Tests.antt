@@ -1,11 +1,11 @@
 -- What a test that was met says, and what a judgement that ended in Sound says of its parts.
+use Rattle.std.specs.Prelude.{Ok, Err}
 use mathlib.Core.Path.{◌≡◌, refl, sym}
 use mathlib.Core.Bool.{Bool, true, false}
 use Prim.Native.Nat.{ℕ}
 use native.Mathlib.Omega.{arith}
 use Rattle.rules.specs.declared.Refusal.{Refusal}
-use Rattle.rules.specs.declared.Judged.{Judged}
-use Rattle.rules.specs.declared.Judged.TheVariants.{Sound, Refused}
+use Rattle.rules.specs.Judged.{Judged}
 use Rattle.rules.specs.Choose.{both}
 use Rattle.rules.specs.Judge.{unless, then_judge}
 
@@ -19,10 +19,10 @@ both_met false b e = never (sym e)
 pub both_true : {a b : Bool} → a ≡ true → b ≡ true → both a b ≡ true
 both_true p q = rw (p, q)
 
-pub unless_met : (t : Bool) (r : Refusal) → unless t r ≡ Sound → t ≡ true
+pub unless_met : (t : Bool) (r : Refusal) → unless t r ≡ (Ok tt) → t ≡ true
 unless_met true r e = refl
 unless_met false r e = absurd (let z : ◌≡◌ {A = ℕ} 0 1 = cc in omega arith)
 
-pub then_met : (a b : Judged) → then_judge a b ≡ Sound → (a ≡ Sound) × (b ≡ Sound)
-then_met Sound b e = (refl, e)
-then_met (Refused r) b e = absurd (let z : ◌≡◌ {A = ℕ} 0 1 = cc in omega arith)
+pub then_met : (a b : Judged) → then_judge a b ≡ (Ok tt) → (a ≡ (Ok tt)) × (b ≡ (Ok tt))
+then_met (Ok _) b e = (refl, e)
+then_met (Err r) b e = absurd (let z : ◌≡◌ {A = ℕ} 0 1 = cc in omega arith)

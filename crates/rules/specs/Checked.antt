@@ -1,9 +1,8 @@
 -- The judgement of anybody's placement on a net: RULES 5.6, after the net's own (RULES 5.11).
-use Rattle.std.specs.Prelude.{ℕ, zero, suc, ◌-◌, Bool, true, List, [], ◌∷◌, length, eqb, ltb, leb}
+use Rattle.std.specs.Prelude.{Ok, ℕ, zero, suc, ◌-◌, Bool, true, List, [], ◌∷◌, length, eqb, ltb, leb}
 use Rattle.rules.specs.declared.Entry.{Entry}
 use Rattle.rules.specs.declared.Refusal.TheVariants.{WrongColumns, Misplaced, Overloaded, WrongParity}
-use Rattle.rules.specs.declared.Judged.{Judged}
-use Rattle.rules.specs.declared.Judged.TheVariants.{Sound}
+use Rattle.rules.specs.Judged.{Judged}
 use Rattle.rules.specs.Figures.{most_entries}
 use Rattle.rules.specs.Choose.{pick, both}
 use Rattle.rules.specs.Net.{Net, places, wire, kind}
@@ -24,12 +23,12 @@ not_lower d e = pick (ltb d.wire e.wire) true (both (eqb d.wire e.wire) (leb d.o
 
 -- entry k and those after it, d the one before
 unfoldable pub placed_from : Net → Entry → ℕ → List Entry → Judged
-placed_from n d k [] = Sound
+placed_from n d k [] = Ok tt
 placed_from n d k (e ∷ es) = then_judge (unless (both (on_its_wire n e) (not_lower d e)) (Misplaced k)) (placed_from n e (suc k) es)
 
 -- 11: "driver over C_U", driver k and those after it
 unfoldable pub within_limit : ℕ → ℕ → List ℕ → Judged
-within_limit limit k [] = Sound
+within_limit limit k [] = Ok tt
 within_limit limit k (load ∷ loads) = then_judge (unless (leb load limit) (Overloaded k)) (within_limit limit (suc k) loads)
 
 -- the lowest-numbered sink among k nodes from i on

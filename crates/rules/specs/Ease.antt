@@ -4,7 +4,7 @@ use Rattle.rules.specs.declared.Entry.{Entry}
 use Rattle.rules.specs.declared.Limits.{Limits}
 use Rattle.rules.specs.declared.Node.{Node}
 use Rattle.rules.specs.declared.Refusal.TheVariants.{NotEased}
-use Rattle.rules.specs.declared.Judged.{Judged}
+use Rattle.rules.specs.Judged.{Judged}
 use Rattle.rules.specs.Choose.{both}
 use Rattle.rules.specs.Net.{Net, places, wire, node}
 use Rattle.rules.specs.Net as columns

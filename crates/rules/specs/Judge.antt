@@ -1,27 +1,26 @@
 -- The judgement of a net's columns: RULES 1.5 to 1.13 as tests, in the order of RULES 5.4.
-use Rattle.std.specs.Prelude.{ℕ, zero, suc, ◌+◌, ◌-◌, ◌*◌, Bool, true, false, length, eqb, ltb, leb}
+use Rattle.std.specs.Prelude.{Ok, Err, ℕ, zero, suc, ◌+◌, ◌-◌, ◌*◌, Bool, true, false, length, eqb, ltb, leb}
 use Rattle.rules.specs.declared.Limits.{Limits}
 use Rattle.rules.specs.declared.Node.{Node}
 use Rattle.rules.specs.declared.Refusal.{Refusal}
 use Rattle.rules.specs.declared.Refusal.TheVariants.{OutOfRange, WrongParent, Childless, WrongColumns}
-use Rattle.rules.specs.declared.Judged.{Judged}
-use Rattle.rules.specs.declared.Judged.TheVariants.{Sound, Refused}
+use Rattle.rules.specs.Judged.{Judged}
 use Rattle.rules.specs.Figures.{most_limit, most_wire, most_pin, most_nodes, most_places, most_children}
 use Rattle.rules.specs.Choose.{pick, both}
 use Rattle.rules.specs.Net.{Net, places, parent, wire, kind, pin, polarity, node}
 
 -- a refusal where a test fails, and the next judgement where there is none
 abbrev pub unless : Bool → Refusal → Judged
-unless true r = Sound
-unless false r = Refused r
+unless true r = Ok tt
+unless false r = Err r
 
 abbrev pub then_judge : Judged → Judged → Judged
-then_judge Sound next = next
-then_judge (Refused r) next = Refused r
+then_judge (Ok _) next = next
+then_judge (Err r) next = Err r
 
 -- f at k numbers from i on, up to the first refusal
 unfoldable pub judge_each : (ℕ → Judged) → ℕ → ℕ → Judged
-judge_each f zero i = Sound
+judge_each f zero i = Ok tt
 judge_each f (suc k) i = then_judge (f i) (judge_each f k (suc i))
 
 -- RULES 1.12, else 7

@@ -1,5 +1,6 @@
 pub mod Figures
 pub mod Choose
+pub mod Judged
 pub mod Refusal
 pub mod Net
 pub mod Tree

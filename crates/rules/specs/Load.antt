@@ -1,5 +1,5 @@
 -- What lies below a node, what a wire hands up, what each repeater drives (RULES 2.6 to 2.11). Loads are natural numbers, so none is too large (RULES 2.19).
-use Rattle.std.specs.Prelude.{ℕ, zero, suc, ◌+◌, ◌-◌, List, [], ◌∷◌, ◌++◌, eqb}
+use Rattle.std.specs.Prelude.{ℕ, zero, suc, ◌+◌, ◌-◌, List, [], ◌∷◌, ◌++◌, get_or, eqb}
 use Rattle.rules.specs.declared.Entry.{Entry}
 use Rattle.rules.specs.Choose.{pick}
 use Rattle.rules.specs.Net.{Net, places, wire, kind, pin}
@@ -10,6 +10,10 @@ unfoldable pub entries : List ℕ → List ℕ → List Entry
 entries [] os = []
 entries (v ∷ vs) [] = []
 entries (v ∷ vs) (o ∷ os) = record { wire = v; offset = o } ∷ entries vs os
+
+-- entry k of the columns
+abbrev pub column_entry : List ℕ → List ℕ → ℕ → Entry
+column_entry vs os k = record { wire = get_or vs k 0; offset = get_or os k 0 }
 
 -- the offsets of wire i, in list order
 unfoldable pub offsets_on : List Entry → ℕ → List ℕ

@@ -1,6 +1,12 @@
-// What the rules say of a net, a placement and a refusal: types, definitions and their laws, and no function.
-// The limits of a net: C_U, C_b, and 0 for a buffer or 1 for an inverter.
+// What the rules say of a net, a placement and a refusal: types, definitions and their laws.
 #![tactic(auto)]
+
+ghost use Rattle.std.specs.Prelude.{◌≡◌, ◌<◌, length};
+ghost use Rattle.rules.specs.Refusal.{number_of, place_of};
+ghost use Rattle.rules.specs.Net.{net_of, node, Within};
+ghost use Rattle.rules.specs.Load.{column_entry};
+
+// The limits of a net: C_U, C_b, and 0 for a buffer or 1 for an inverter. Any number may come in, and the judge refuses one that is neither.
 
 #[derive(Clone, Copy)]
 pub struct Limits {
@@ -26,6 +32,53 @@ pub struct Entry {
     pub offset: u32,
 }
 
+// A net: its limits, and the five columns of its nodes. Whatever they hold, unequal or empty, may be lent.
+#[derive(Clone, Copy)]
+pub struct LentNet<'a> {
+    pub limits: Limits,
+    pub parent: &'a [u16],
+    pub wire: &'a [u32],
+    pub kind: &'a [u8],
+    pub pin: &'a [u32],
+    pub polarity: &'a [u8],
+}
+
+impl LentNet<'_> {
+    // Node i of the columns.
+    pub fn node(&self, i: usize) -> Node
+        requires { Within (net_of self.now) i }
+        ensures { result ≡ node (net_of self.now) i }
+    {
+        Node {
+            parent: self.parent[i],
+            wire: self.wire[i],
+            kind: self.kind[i],
+            pin: self.pin[i],
+            polarity: self.polarity[i],
+        }
+    }
+}
+
+// A placement: the wires and the offsets of its entries.
+#[derive(Clone, Copy)]
+pub struct LentPlacement<'a> {
+    pub wires: &'a [u16],
+    pub offsets: &'a [u32],
+}
+
+impl LentPlacement<'_> {
+    // Entry k of the columns.
+    pub fn entry(&self, k: usize) -> Entry
+        requires { (k < length self.now.wires.now) × (k < length self.now.offsets.now) }
+        ensures { result ≡ column_entry self.now.wires.now self.now.offsets.now k }
+    {
+        Entry {
+            wire: self.wires[k],
+            offset: self.offsets[k],
+        }
+    }
+}
+
 // Why a call refuses, in the order of the numbers (RULES 4.3). Each holds the place.
 #[derive(Clone, Copy)]
 pub enum Refusal {
@@ -44,9 +97,45 @@ pub enum Refusal {
     NotEased(usize),
 }
 
-// What a judge says: nothing is wrong, or the first refusal.
-#[derive(Clone, Copy)]
-pub enum Judged {
-    Sound,
-    Refused(Refusal),
+impl Refusal {
+    // Its number.
+    pub fn number(self) -> u32
+        ensures { result ≡ number_of self }
+    {
+        match self {
+            Refusal::FileEnds(_) => 1,
+            Refusal::NotDue(_) => 2,
+            Refusal::OutOfRange(_) => 3,
+            Refusal::WrongParent(_) => 4,
+            Refusal::Childless(_) => 5,
+            Refusal::BytesAfterEnd(_) => 6,
+            Refusal::WrongColumns => 7,
+            Refusal::NoLegalPlacement => 8,
+            Refusal::NoRoom(_) => 9,
+            Refusal::Misplaced(_) => 10,
+            Refusal::Overloaded(_) => 11,
+            Refusal::WrongParity(_) => 12,
+            Refusal::NotEased(_) => 13,
+        }
+    }
+
+    // Its place: a byte, a node or an entry, for 9 the number needed, and 0 where the table names none.
+    pub fn place(self) -> u64
+        ensures { result ≡ place_of self }
+    {
+        match self {
+            Refusal::WrongColumns | Refusal::NoLegalPlacement => 0,
+            Refusal::NoRoom(needed) => needed,
+            Refusal::FileEnds(p)
+            | Refusal::NotDue(p)
+            | Refusal::OutOfRange(p)
+            | Refusal::WrongParent(p)
+            | Refusal::Childless(p)
+            | Refusal::BytesAfterEnd(p)
+            | Refusal::Misplaced(p)
+            | Refusal::Overloaded(p)
+            | Refusal::WrongParity(p)
+            | Refusal::NotEased(p) => p as u64,
+        }
+    }
 }

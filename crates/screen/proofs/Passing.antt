@@ -1,4 +1,5 @@
 -- What the passes have met makes every judgement Sound.
+use Rattle.std.specs.Prelude.{Ok}
 use Prim.Native.Nat.{ℕ, ◌+◌, ◌-◌, ◌*◌, ◌≤◌, ◌<◌}
 use mathlib.Core.Path.{◌≡◌, refl, sym, ◌∙◌}
 use mathlib.Core.Bool.{Bool, true, false, ◌&&◌, beq}
@@ -9,7 +10,6 @@ use lib.ListN.{length, get_or}
 use lib.Dec.{eqb, ltb, leb}
 use borrow.Author.Tests.{eq-eqb, ne_eqb, lt-ltb, le-leb, eqb-true, ltb-true, leb-true}
 use Rattle.rules.specs.declared.Refusal.TheVariants.{Childless}
-use Rattle.rules.specs.declared.Judged.TheVariants.{Sound}
 use Rattle.rules.specs.Figures.{most_wire, most_pin, most_nodes, most_children}
 use Rattle.rules.specs.Choose.{pick}
 use Rattle.rules.specs.Net.{Net, places, parent, wire, kind, pin, polarity, node}
@@ -73,10 +73,10 @@ module _ (k c : ℕ) (e : count_fits k c ≡ true) where
   some_fit : 0 < c → k ≡ 0
   some_fit some = eqb-true k 0 (same_fit ∙ lt-ltb 0 c some)
 
-  child_fit : (i : ℕ) → has_child i k c ≡ Sound
+  child_fit : (i : ℕ) → has_child i k c ≡ (Ok tt)
   child_fit i = rw same_fit (by (ltb 0 c))
     where
-      by : (t : Bool) → unless (pick t t true) (Childless i) ≡ Sound
+      by : (t : Bool) → unless (pick t t true) (Childless i) ≡ (Ok tt)
       by true = refl
       by false = refl
 
@@ -96,10 +96,10 @@ module _ {n : Net} (v : Level n) {r : Bool} (nodes : Every (node_fits n) 1 (plac
         both_true (le-leb i most_nodes (omega arith))
         (both_true (lt-ltb p i lower) (both_true (eq-eqb (kind n p) 0 (some_fit (kind n p) (get_or counts p 0) at (omega (arith, t.each p)))) (lt-ltb (children n (i - 1) p) most_children (omega (arith, t.each p)))))
 
-    nodes_met : nodes_judged n ≡ Sound
+    nodes_met : nodes_judged n ≡ (Ok tt)
     nodes_met = each_sound _ _ 1 (λ i lo hi. let h : i < places n = omega arith in then_both (unless_true (node_fits_lem n i (nodes.met met i lo h)).0 _) (unless_true (parent_met i lo h) _))
 
-    children_met : childed n ≡ Sound
+    children_met : childed n ≡ (Ok tt)
     children_met = sym (childed_is t) ∙ each_sound _ _ 0 (λ j lo hi. child_fit (kind n j) (get_or counts j 0) (fits.met fit j lo (omega arith)) j)
 
   pub passed : {counts : List ℕ} → Tallied n counts (places n) → {y : Bool} → Every (λ j. count_fits (kind n j) (get_or counts j 0)) 0 (length n.kinds) y → Passed n y

@@ -1,7 +1,6 @@
 -- What the passes over a net's columns ask, and what their yes says.
-use Rattle.std.specs.Prelude.{ℕ, ◌-◌, ◌*◌, ◌≤◌, ◌<◌, ◌≡◌, Bool, true, ◌&&◌, List, length, get_or, eqb, ltb, leb}
+use Rattle.std.specs.Prelude.{Ok, ℕ, ◌-◌, ◌*◌, ◌≤◌, ◌<◌, ◌≡◌, Bool, true, ◌&&◌, List, length, get_or, eqb, ltb, leb}
 use Rattle.std.specs.Bool.{beq}
-use Rattle.rules.specs.declared.Judged.TheVariants.{Sound}
 use Rattle.rules.specs.Figures.{most_wire, most_pin, most_places, most_children}
 use Rattle.rules.specs.Net.{Net, places, parent, wire, kind, pin, polarity}
 use Rattle.rules.specs.Judge.{children, nodes_judged, childed}
@@ -36,5 +35,5 @@ count_fits k c = leb c most_children && beq (eqb k 0) (ltb 0 c)
 
 -- where r is a yes, no node is refused, and none is childless
 pub record Passed (n : Net) (r : Bool) : Type 0 where
-  pub nodes : r ≡ true → nodes_judged n ≡ Sound
-  pub children : r ≡ true → childed n ≡ Sound
+  pub nodes : r ≡ true → nodes_judged n ≡ (Ok tt)
+  pub children : r ≡ true → childed n ≡ (Ok tt)

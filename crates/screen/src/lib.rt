@@ -3,32 +3,23 @@
 #![tactic(auto)]
 
 ghost use Rattle.std.specs.Prelude.{◌≡◌, ◌≤◌, length, get_or};
-ghost use Rattle.rules.specs.Net.{net_at};
+ghost use Rattle.rules.specs.Net.{net_of};
 ghost use Rattle.screen.specs.Screened.{Level, Every, node_fits, count_fits, Passed};
 
-use rules::Limits;
+use rules::LentNet;
 
 // The nodes from 1 up: in their ranges, and each under a lower one.
-fn nodes_fit(
-    l: Limits,
-    parent: &[u16],
-    wire: &[u32],
-    kind: &[u8],
-    pin: &[u32],
-    polarity: &[u8],
-) -> bool
-    requires { Level (net_at l parent wire kind pin polarity) }
-    ensures { Every (node_fits (net_at l parent.entry wire.entry kind.entry pin.entry polarity.entry)) 1 (length parent.now) result }
+fn nodes_fit(net: &LentNet) -> bool
+    requires { Level (net_of net.now) }
+    ensures { Every (node_fits (net_of net.now)) 1 (length net.now.parent.now) result }
 {
     let mut fine = true;
-    let mut i: usize = 1;
-    while i < parent.len() {
-        let k = kind[i];
-        let q = polarity[i];
-        let end = (pin[i] <= 1000000 * (k as u32)) & (q <= k) & (q <= l.repeater);
-        let here = (wire[i] <= 10000000) & (k <= 1) & end & (parent[i] < i as u16);
+    for i in 1..net.parent.len() {
+        let k = net.kind[i];
+        let q = net.polarity[i];
+        let end = (net.pin[i] <= 1000000 * (k as u32)) & (q <= k) & (q <= net.limits.repeater);
+        let here = (net.wire[i] <= 10000000) & (k <= 1) & end & (net.parent[i] < i as u16);
         fine = here & fine;
-        i += 1;
     }
     fine
 }
@@ -39,36 +30,25 @@ fn counts_fit(kinds: &[u8], counts: &[u16; 1025]) -> bool
     ensures { Every (λ v. count_fits (get_or kinds.now v 0) (get_or counts.now v 0)) 0 (length kinds.now) result }
 {
     let mut fine = true;
-    let mut v: usize = 0;
-    while v < kinds.len() {
+    for (v, kind) in kinds.iter().enumerate() {
         let c = counts[v];
-        fine = (c <= 8) & ((kinds[v] == 0) == (0 < c)) & fine;
-        v += 1;
+        fine = (c <= 8) & ((*kind == 0) == (0 < c)) & fine;
     }
     fine
 }
 
 // Parents are known to be lower before they are counted, and no node has more children than there are nodes: 16 bits hold any count.
-pub fn passes(
-    l: Limits,
-    parent: &[u16],
-    wire: &[u32],
-    kind: &[u8],
-    pin: &[u32],
-    polarity: &[u8],
-) -> bool
-    requires { Level (net_at l parent wire kind pin polarity) }
-    ensures { Passed (net_at l parent.entry wire.entry kind.entry pin.entry polarity.entry) result }
+pub fn passes(net: &LentNet) -> bool
+    requires { Level (net_of net.now) }
+    ensures { Passed (net_of net.now) result }
 {
-    if !nodes_fit(l, parent, wire, kind, pin, polarity) {
+    if !nodes_fit(net) {
         return false;
     }
     let mut counts = [0u16; 1025];
-    let mut i: usize = 1;
-    while i < parent.len() {
-        let p = parent[i] as usize;
-        counts[p] = counts[p] + 1;
-        i += 1;
+    for i in 1..net.parent.len() {
+        let p = net.parent[i] as usize;
+        counts[p] += 1;
     }
-    counts_fit(kind, &counts)
+    counts_fit(net.kind, &counts)
 }

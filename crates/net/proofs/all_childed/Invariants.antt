@@ -1,5 +1,4 @@
 -- `all_childed` answers the lowest childless node: its loop goes through `judge_each`, one node a turn.
-use Prim.Native.Nat.{◌-◌}
 use lib.ListN.{get_or}
 use Rattle.rules.specs.Judge.{has_child}
 use Rattle.rules.proofs.Each.{Going}
@@ -7,6 +6,3 @@ use Rattle.net.proofs.all_childed.Given as goal
 
 abbrev pub invariant-loop-i : goal.invariant-loop-i
 invariant-loop-i l = Going (λ j. has_child j (get_or l.kinds j 0) (get_or l.counts j 0)) l.n 0 l.i
-
-abbrev pub decreases-loop-i : goal.decreases-loop-i
-decreases-loop-i l = l.n - l.i
