@@ -8,7 +8,7 @@ ghost use Rattle.rules.specs.Load.{column_entry};
 
 // The limits of a net: C_U, C_b, and 0 for a buffer or 1 for an inverter. Any number may come in, and the judge refuses one that is neither.
 
-#[derive(Clone, Copy)]
+#[derive(Clone, Copy, Debug, PartialEq, Eq)]
 pub struct Limits {
     pub limit: u32,
     pub pin: u32,
@@ -16,7 +16,7 @@ pub struct Limits {
 }
 
 // A node as the columns hold it: kind is 0 for a branch point and 1 for a sink.
-#[derive(Clone, Copy)]
+#[derive(Clone, Copy, Debug, PartialEq, Eq)]
 pub struct Node {
     pub parent: u16,
     pub wire: u32,
@@ -25,8 +25,8 @@ pub struct Node {
     pub polarity: u8,
 }
 
-// An entry of a placement: a wire, and the units of that wire below the repeater.
-#[derive(Clone, Copy)]
+// An entry of a placement: a wire, and the units of that wire below the repeater. Entries stand in this order: by wire, and on a wire by offset.
+#[derive(Clone, Copy, Debug, PartialEq, Eq, PartialOrd, Ord)]
 pub struct Entry {
     pub wire: u16,
     pub offset: u32,
@@ -80,7 +80,7 @@ impl LentPlacement<'_> {
 }
 
 // Why a call refuses, in the order of the numbers (RULES 4.3). Each holds the place.
-#[derive(Clone, Copy)]
+#[derive(Clone, Copy, Debug, PartialEq, Eq)]
 pub enum Refusal {
     FileEnds(usize),
     NotDue(usize),
