@@ -1,21 +1,18 @@
 -- Bytes laid one after the other, by field's law of a run of stores.
-use Prim.Native.Nat.{ℕ, ◌+◌, ◌≤◌, ◌<◌}
-use native.Mathlib.Numerals.{add-one}
+use Prim.Native.Nat.{ℕ, ◌+◌, ◌≤◌}
 use native.Mathlib.Omega.{arith}
-use mathlib.Core.Path.{◌≡◌, sym, ap, ◌∙◌}
-use mathlib.Core.List.{List, ◌++◌}
-use lib.ListN.{length, get_or, set, take, drop, replicate, length-append}
-use lib.Seq.{sets, sets-eq, take-suc, take-append_seam, length-take-le, length-sets}
+use mathlib.Core.Path.{◌≡◌, ap, ◌∙◌}
+use mathlib.Core.List.{List, ◌++◌, append_assoc}
+use lib.ListN.{length, take, drop, replicate, length-append}
+use borrow.Rule.Slice.PartMut.{put_mid}
+use lib.Seq.{drop-drop, sets, sets-eq, take-append_seam, length-sets}
 use Rattle.field.proofs.Numbers.{sets_append}
 use Rattle.answer.specs.declared.Line.{Line}
 use Rattle.answer.specs.Text.{Laid, IsLine, end}
 
-pub one_more : (l bs : List ℕ) (at i : ℕ) → i < length bs → set (sets l at (take i bs)) (at + i) (get_or bs i 0) ≡ sets l at (take (i + 1) bs)
-one_more l bs at i h =
-    let e : length (take i bs) ≡ i = length-take-le i bs (omega arith) in
-    sym
-    (rw (add-one, take-suc bs i 0 h, sets_append)
-    (ap (λ (k : ℕ). set (sets l at (take i bs)) (at + k) (get_or bs i 0)) e))
+-- bytes that were copied to the place `at` on
+pub copied : (l bs part : List ℕ) (at k : ℕ) → part ≡ bs → k ≡ length bs → at + length bs ≤ length l → put_mid at k l part ≡ sets l at bs
+copied l bs part at k is n room = rw (is, n, sets-eq bs l at room, drop-drop, append_assoc)
 
 pub then_laid : {l xs ys l₁ l₂ : List ℕ} {at n₁ n₂ : ℕ} → Laid l at xs l₁ n₁ → Laid l₁ n₁ ys l₂ n₂ → Laid l at (xs ++ ys) l₂ n₂
 then_laid {l} {xs} {ys} {at = at} a b = record { ends = simp length-append (omega arith); stands = let g = sets_append l at xs ys in cc }

@@ -4,7 +4,7 @@
 ghost use Rattle.std.specs.Prelude.{◌≡◌, ◌+◌, ◌*◌, ◌≤◌, length, take};
 ghost use Rattle.answer.specs.Text.{Laid, digits, said, count_line, pair_line, entry_line, refused_line, refused_by, IsLine, entry_lines, place_line, place_lines, loads_text, answer_text, counted_text};
 
-use rules::Refusal;
+use rules::{LentPlacement, Refusal};
 
 // A line of text: the first `bytes` places of `text`, the last of them the line's end. The other places hold 0.
 #[derive(Drop)]
@@ -18,12 +18,9 @@ pub fn put(out: &mut [u8], at: usize, bytes: &[u8]) -> usize
     requires { at + length bytes.now ≤ length out.old }
     ensures { Laid out.old at bytes.now out.new result }
 {
-    let mut i = 0;
-    while i < bytes.len() {
-        out[at + i] = bytes[i];
-        i += 1;
-    }
-    at + i
+    let after = at + bytes.len();
+    out[at..after].copy_from_slice(bytes);
+    after
 }
 
 fn put_number(out: &mut [u8], at: usize, n: u64) -> usize
@@ -52,10 +49,7 @@ pub fn count_line(word: &[u8], n: u64) -> Line
     let mut text = [0u8; 64];
     let at = say(&mut text, 0, word, n);
     let bytes = put(&mut text, at, b"\n");
-    Line {
-        text: text,
-        bytes: bytes,
-    }
+    Line { text, bytes }
 }
 
 // Two words, each with its number: `wire W offset O`, `refused N place P`, `legal N least M`.
@@ -67,10 +61,7 @@ pub fn pair_line(first: &[u8], n: u64, second: &[u8], m: u64) -> Line
     let middle = say(&mut text, 0, first, n);
     let at = say(&mut text, middle, second, m);
     let bytes = put(&mut text, at, b"\n");
-    Line {
-        text: text,
-        bytes: bytes,
-    }
+    Line { text, bytes }
 }
 
 // `wire W offset O drives L`: an entry and its load.
@@ -82,10 +73,7 @@ pub fn entry_line(wire: u16, offset: u32, load: u64) -> Line
     let second = say(&mut text, first, b" offset ", offset as u64);
     let third = say(&mut text, second, b" drives ", load);
     let bytes = put(&mut text, third, b"\n");
-    Line {
-        text: text,
-        bytes: bytes,
-    }
+    Line { text, bytes }
 }
 
 // `wire W offset O`: an entry alone.
@@ -99,9 +87,7 @@ fn place_line(wire: u16, offset: u32) -> Line
 pub fn refused_line(why: Refusal) -> Line
     ensures { IsLine (refused_line why) result }
 {
-    let number = net::number(why);
-    let place = net::place(why);
-    pair_line(b"refused ", number as u64, b" place ", place)
+    pair_line(b"refused ", why.number() as u64, b" place ", why.place())
 }
 
 // Lays a line from the place at on, and answers the place after it.
@@ -109,39 +95,35 @@ pub fn put_line(out: &mut [u8], at: usize, line: Line) -> usize
     requires { (line.bytes ≤ length line.text) × (at + line.bytes ≤ length out.old) }
     ensures { Laid out.old at (take line.bytes line.text) out.new result }
 {
-    let text = line.text;
-    let bytes = line.bytes;
-    put(out, at, &text[..bytes])
+    put(out, at, &line.text[..line.bytes])
 }
 
 // Lays one line an entry.
-fn put_entries(out: &mut [u8], at: usize, wires: &[u16], offsets: &[u32], loads: &[u64]) -> usize
-    requires offsets_len { (length offsets.now ≡ length wires.now) × (length loads.now ≡ length wires.now) }
-    requires wires_in_bounds { at + 64 * length wires.now ≤ length out.old }
-    ensures laid { Laid out.old at (entry_lines wires.now offsets.now loads.now) out.new result }
-    ensures upper_bound { result ≤ at + 64 * length wires.now }
+fn put_entries(out: &mut [u8], at: usize, placement: &LentPlacement, loads: &[u64]) -> usize
+    requires offsets_len { (length placement.now.offsets.now ≡ length placement.now.wires.now) × (length loads.now ≡ length placement.now.wires.now) }
+    requires wires_in_bounds { at + 64 * length placement.now.wires.now ≤ length out.old }
+    ensures laid { Laid out.old at (entry_lines placement.now.wires.now placement.now.offsets.now loads.now) out.new result }
+    ensures upper_bound { result ≤ at + 64 * length placement.now.wires.now }
 {
     let mut next = at;
-    let mut k = 0;
-    while k < wires.len() {
-        next = put_line(out, next, entry_line(wires[k], offsets[k], loads[k]));
-        k += 1;
+    for k in 0..placement.wires.len() {
+        let entry = placement.entry(k);
+        next = put_line(out, next, entry_line(entry.wire, entry.offset, loads[k]));
     }
     next
 }
 
 // Lays one line an entry, without its load.
-fn put_places(out: &mut [u8], at: usize, wires: &[u16], offsets: &[u32]) -> usize
-    requires offsets_len { length offsets.now ≡ length wires.now }
-    requires wires_in_bounds { at + 64 * length wires.now ≤ length out.old }
-    ensures laid { Laid out.old at (place_lines wires.now offsets.now) out.new result }
-    ensures upper_bound { result ≤ at + 64 * length wires.now }
+fn put_places(out: &mut [u8], at: usize, placement: &LentPlacement) -> usize
+    requires offsets_len { length placement.now.offsets.now ≡ length placement.now.wires.now }
+    requires wires_in_bounds { at + 64 * length placement.now.wires.now ≤ length out.old }
+    ensures laid { Laid out.old at (place_lines placement.now.wires.now placement.now.offsets.now) out.new result }
+    ensures upper_bound { result ≤ at + 64 * length placement.now.wires.now }
 {
     let mut next = at;
-    let mut k = 0;
-    while k < wires.len() {
-        next = put_line(out, next, place_line(wires[k], offsets[k]));
-        k += 1;
+    for k in 0..placement.wires.len() {
+        let entry = placement.entry(k);
+        next = put_line(out, next, place_line(entry.wire, entry.offset));
     }
     next
 }
@@ -150,46 +132,39 @@ fn put_places(out: &mut [u8], at: usize, wires: &[u16], offsets: &[u32]) -> usiz
 pub fn put_loads(
     out: &mut [u8],
     at: usize,
-    wires: &[u16],
-    offsets: &[u32],
+    placement: &LentPlacement,
     loads: &[u64],
     source: u64,
 ) -> usize
-    requires offsets_len { (length offsets.now ≡ length wires.now) × (length loads.now ≡ length wires.now) }
-    requires wires_in_bounds { at + 64 * (length wires.now + 1) ≤ length out.old }
-    ensures laid { Laid out.old at (loads_text wires.now offsets.now loads.now source) out.new result }
-    ensures upper_bound { result ≤ at + 64 * (length wires.now + 1) }
+    requires offsets_len { (length placement.now.offsets.now ≡ length placement.now.wires.now) × (length loads.now ≡ length placement.now.wires.now) }
+    requires wires_in_bounds { at + 64 * (length placement.now.wires.now + 1) ≤ length out.old }
+    ensures laid { Laid out.old at (loads_text placement.now.wires.now placement.now.offsets.now loads.now source) out.new result }
+    ensures upper_bound { result ≤ at + 64 * (length placement.now.wires.now + 1) }
 {
-    let after = put_entries(out, at, wires, offsets, loads);
+    let after = put_entries(out, at, placement, loads);
     put_line(out, after, count_line(b"source drives ", source))
 }
 
 // Lays the whole answer of a net: the count, and the loads.
-pub fn put_answer(
-    out: &mut [u8],
-    wires: &[u16],
-    offsets: &[u32],
-    loads: &[u64],
-    source: u64,
-) -> usize
-    requires offsets_len { (length offsets.now ≡ length wires.now) × (length loads.now ≡ length wires.now) }
-    requires wires_in_bounds { 64 * (length wires.now + 2) ≤ length out.old }
-    ensures laid { Laid out.old 0 (answer_text wires.now offsets.now loads.now source) out.new result }
-    ensures upper_bound { result ≤ 64 * (length wires.now + 2) }
+pub fn put_answer(out: &mut [u8], placement: &LentPlacement, loads: &[u64], source: u64) -> usize
+    requires offsets_len { (length placement.now.offsets.now ≡ length placement.now.wires.now) × (length loads.now ≡ length placement.now.wires.now) }
+    requires wires_in_bounds { 64 * (length placement.now.wires.now + 2) ≤ length out.old }
+    ensures laid { Laid out.old 0 (answer_text placement.now.wires.now placement.now.offsets.now loads.now source) out.new result }
+    ensures upper_bound { result ≤ 64 * (length placement.now.wires.now + 2) }
 {
-    let after = put_line(out, 0, count_line(b"least ", wires.len() as u64));
-    put_loads(out, after, wires, offsets, loads, source)
+    let after = put_line(out, 0, count_line(b"least ", placement.wires.len() as u64));
+    put_loads(out, after, placement, loads, source)
 }
 
 // Lays a word with the number of some entries, and the entries: `carried N`, `added N`.
-pub fn put_counted(out: &mut [u8], word: &[u8], wires: &[u16], offsets: &[u32]) -> usize
-    requires word_len_bound { (length word.now ≤ 43) × (length offsets.now ≡ length wires.now) }
-    requires wires_in_bounds { 64 * (length wires.now + 1) ≤ length out.old }
-    ensures laid { Laid out.old 0 (counted_text word.now wires.now offsets.now) out.new result }
-    ensures upper_bound { result ≤ 64 * (length wires.now + 1) }
+pub fn put_counted(out: &mut [u8], word: &[u8], placement: &LentPlacement) -> usize
+    requires word_len_bound { (length word.now ≤ 43) × (length placement.now.offsets.now ≡ length placement.now.wires.now) }
+    requires wires_in_bounds { 64 * (length placement.now.wires.now + 1) ≤ length out.old }
+    ensures laid { Laid out.old 0 (counted_text word.now placement.now.wires.now placement.now.offsets.now) out.new result }
+    ensures upper_bound { result ≤ 64 * (length placement.now.wires.now + 1) }
 {
-    let after = put_line(out, 0, count_line(word, wires.len() as u64));
-    put_places(out, after, wires, offsets)
+    let after = put_line(out, 0, count_line(word, placement.wires.len() as u64));
+    put_places(out, after, placement)
 }
 
 // Lays a refusal, with a word before it that says which file is at fault.

@@ -1,5 +1,5 @@
 -- `put_entries` lays one line an entry: after k turns those of the first k entries stand, in at most 64 bytes each.
-use Prim.Native.Nat.{◌+◌, ◌*◌, ◌-◌, ◌≤◌}
+use Prim.Native.Nat.{◌+◌, ◌*◌, ◌≤◌}
 use mathlib.Core.Path.{◌≡◌}
 use lib.ListN.{length, take}
 use Rattle.answer.specs.Text.{Laid, entry_lines}
@@ -7,10 +7,6 @@ use Rattle.answer.proofs.put_entries.Given as goal
 
 abbrev pub invariant-loop-k : goal.invariant-loop-k
 invariant-loop-k l =
-    (l.k ≤ length l.wires)
-    × (l.next ≤ l.at + 64 * l.k)
+    (l.next ≤ l.at + 64 * l.k)
     × (length l.out ≡ length l.initial.out)
-    × Laid l.initial.out l.at (entry_lines (take l.k l.wires) (take l.k l.offsets) (take l.k l.loads)) l.out l.next
-
-abbrev pub decreases-loop-k : goal.decreases-loop-k
-decreases-loop-k l = length l.wires - l.k
+    × Laid l.initial.out l.at (entry_lines (take l.k l.placement.wires.now) (take l.k l.placement.offsets.now) (take l.k l.loads)) l.out l.next

@@ -1,22 +1,15 @@
 use native.Mathlib.Omega.{arith}
 use mathlib.Core.Path.{refl, sym, ap}
 use lib.ListN.{length}
-use lib.Seq.{take_all}
 use borrow.Author.Rules.{rules}
-use Rattle.answer.proofs.Laying.{then_laid, laid_as, kept, of_line, line_size}
+use Rattle.answer.proofs.Laying.{then_laid, laid_as, kept, of_line}
 use Rattle.answer.specs.Text.{place_lines}
 use Rattle.answer.proofs.Entries.{one_place_more}
 use Rattle.answer.proofs.put_places.Goals as goal
 
 pub loop-k-init : goal.loop-k-init
 unfolding place_lines
-loop-k-init c = (search rules, search rules, refl, record { ends = search rules; stands = refl })
-
-pub put_line-next-requires : goal.put_line-next-requires
-put_line-next-requires c = let z = line_size _ c.place_line.ensures in (omega arith, omega (arith, c.place_line.ensures.short))
+loop-k-init c = (search rules, refl, record { ends = search rules; stands = refl })
 
 pub loop-k-preserved : goal.loop-k-preserved
-loop-k-preserved c = let more = one_place_more c.args.wires.now c.args.offsets.now c.loop-k.k (search rules) (search rules) in (search rules, omega (arith, ap length (of_line _ c.place_line.ensures), c.place_line.ensures.short), omega (arith, kept c.put_line-next.ensures), laid_as (sym more) (then_laid c.loop-k.invariant.3 (laid_as (of_line _ c.place_line.ensures) c.put_line-next.ensures)))
-
-pub returns : goal.returns
-returns c = let w = take_all c.loop-k.k c.args.wires.now (omega arith) in let o = take_all c.loop-k.k c.args.offsets.now (omega arith) in record { laid = laid_as (rw (w, o)) c.loop-k.invariant.3; upper_bound = omega arith }
+loop-k-preserved c = let more = one_place_more c.args.placement.now.wires.now c.args.placement.now.offsets.now c.loop-k.k c.entry-entry.ensures (search rules) (search rules) in (omega (arith, ap length (of_line _ c.place_line.ensures), c.place_line.ensures.short), omega (arith, kept c.put_line-next.ensures), laid_as (sym more) (then_laid c.loop-k.invariant.2 (laid_as (of_line _ c.place_line.ensures) c.put_line-next.ensures)))
