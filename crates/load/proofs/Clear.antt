@@ -5,10 +5,11 @@ use lib.ListN.{get_or, replicate, length-replicate}
 use Rattle.rules.specs.Figures.{most_places}
 use Rattle.load.specs.Tables.{Clear}
 
-pub none_in : (k i : ℕ) → get_or (replicate {A = ℕ} k 0) i 0 ≡ 0
-none_in zero i = refl
-none_in (suc k) zero = refl
-none_in (suc k) (suc i) = none_in k i
+module _ {A : Type 0} (blank : A) where
+  pub none_in : (k i : ℕ) → get_or (replicate k blank) i blank ≡ blank
+  none_in zero i = refl
+  none_in (suc k) zero = refl
+  none_in (suc k) (suc i) = none_in k i
 
-pub new_clear : Clear (replicate most_places 0)
-new_clear = record { long = length-replicate {A = ℕ} most_places 0; none = none_in most_places }
+  pub new_clear : Clear blank (replicate most_places blank)
+  new_clear = record { long = length-replicate most_places blank; none = none_in most_places }

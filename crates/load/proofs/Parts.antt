@@ -8,7 +8,7 @@ use native.Mathlib.Omega.{arith}
 use native.Mathlib.Numerals.{add-one}
 use native.Mathlib.Decide.{ℕ_discrete, dec_lt}
 use borrow.Author.Count.{below_more}
-use borrow.Author.Tests.{eq-eqb, ne_eqb}
+use borrow.Author.Tests.{eq-eqb, ne_eqb, eqb-true}
 use lib.Dec.{eqb}
 use lib.ListN.{length, get_or, set, length-set, take}
 use lib.Seq.{get_or-set_same, get_or-set_other, take-length}
@@ -18,26 +18,27 @@ use Rattle.rules.specs.Net.{Net, places, wire, kind, pin}
 use Rattle.rules.specs.Load.{entries, offsets_on, hands_up, handed_up, load_below}
 use Rattle.rules.specs.Sound.{SoundNet}
 use Rattle.load.specs.Tables.{Clear, own_part, shut_by, Parts}
+use Rattle.rules.proofs.Tests.{never}
 use Rattle.load.proofs.Bound.{hands_up_most}
 use Rattle.load.proofs.Scan.{load_sink}
 
 -- ---- what the parts say
 
 module _ (n : Net) (i : ℕ) where
-  shut_part : (xs : List ℕ) (load : ℕ) → (kind n i ≡ 1 → load ≡ pin n i) → shut_by n i xs ≡ 1 → hands_up n.limits.pin (wire n i) 0 load xs ≡ own_part n i xs
+  shut_part : (xs : List ℕ) (load : ℕ) → (kind n i ≡ 1 → load ≡ pin n i) → shut_by n i xs ≡ true → hands_up n.limits.pin (wire n i) 0 load xs ≡ own_part n i xs
   unfolding hands_up own_part shut_by
-  shut_part [] load l z = rw (eq-eqb (kind n i) 1 z) (omega (arith, l z))
+  shut_part [] load l z = rw z (omega (arith, l (eqb-true (kind n i) 1 z)))
   shut_part (o ∷ os) load l z = refl
 
-  open_part : (xs : List ℕ) (load : ℕ) → (shut_by n i xs ≡ 1 → ⊥) → hands_up n.limits.pin (wire n i) 0 load xs ≡ own_part n i xs + load
+  open_part : (xs : List ℕ) (load : ℕ) → shut_by n i xs ≡ false → hands_up n.limits.pin (wire n i) 0 load xs ≡ own_part n i xs + load
   unfolding hands_up own_part shut_by
-  open_part [] load z = rw (ne_eqb (kind n i) 1 z) (omega arith)
-  open_part (o ∷ os) load z = absurd (z refl)
+  open_part [] load z = rw z (omega arith)
+  open_part (o ∷ os) load z = never z
 
-  branch_part : (xs : List ℕ) → (shut_by n i xs ≡ 1 → ⊥) → kind n i ≡ 1 → ⊥
+  branch_part : (xs : List ℕ) → shut_by n i xs ≡ false → kind n i ≡ 1 → ⊥
   unfolding shut_by
-  branch_part [] z k = z k
-  branch_part (o ∷ os) z k = z refl
+  branch_part [] z k = never (sym (eq-eqb (kind n i) 1 k) ∙ z)
+  branch_part (o ∷ os) z k = never z
 
   own_bare : (s : SoundNet n) (z : Bool) → pick z (wire n i + pin n i) (wire n i) ≤ 11000000
   own_bare s true = omega (arith, s.wire_most i, s.pin_most i)
@@ -48,17 +49,17 @@ module _ (n : Net) (i : ℕ) where
   own_part_most s [] = own_bare s (eqb (kind n i) 1)
   own_part_most s (o ∷ os) = omega (arith, hands_up_most n.limits.pin (wire n i) 0 0 (o ∷ os), s.wire_most i, s.half, s.limit_most)
 
-module _ {n : Net} {offs : ℕ → List ℕ} {own shut : List ℕ} (p : Parts n offs own shut) (i : ℕ) where
-  pub handed_shut : get_or shut i 0 ≡ 1 → handed_up n offs i ≡ get_or own i 0
+module _ {n : Net} {offs : ℕ → List ℕ} {own : List ℕ} {shut : List Bool} (p : Parts n offs own shut) (i : ℕ) where
+  pub handed_shut : get_or shut i false ≡ true → handed_up n offs i ≡ get_or own i 0
   unfolding handed_up
   handed_shut z = shut_part n i (offs i) (load_below n offs i) (load_sink n offs i) (sym (p.shut_is i) ∙ z) ∙ sym (p.own_is i)
 
-  pub handed_open : (get_or shut i 0 ≡ 1 → ⊥) → handed_up n offs i ≡ get_or own i 0 + load_below n offs i
+  pub handed_open : get_or shut i false ≡ false → handed_up n offs i ≡ get_or own i 0 + load_below n offs i
   unfolding handed_up
-  handed_open z = rw (p.own_is i) (open_part n i (offs i) (load_below n offs i) (λ e. z (p.shut_is i ∙ e)))
+  handed_open z = rw (p.own_is i) (open_part n i (offs i) (load_below n offs i) (sym (p.shut_is i) ∙ z))
 
-  pub open_branch : (get_or shut i 0 ≡ 1 → ⊥) → kind n i ≡ 1 → ⊥
-  open_branch z = branch_part n i (offs i) (λ e. z (p.shut_is i ∙ e))
+  pub open_branch : get_or shut i false ≡ false → kind n i ≡ 1 → ⊥
+  open_branch z = branch_part n i (offs i) (sym (p.shut_is i) ∙ z)
 
   pub own_most : SoundNet n → get_or own i 0 ≤ 11000000
   own_most s = rw (p.own_is i) (own_part_most n i s (offs i))
@@ -66,15 +67,15 @@ module _ {n : Net} {offs : ℕ → List ℕ} {own shut : List ℕ} (p : Parts n 
 -- ---- the pass over the nodes
 
 -- the nodes before i are done, and the others' places are clear
-pub record Bare (ws ks ps own shut : List ℕ) (i : ℕ) : Type 0 where
+pub record Bare (ws ks ps own : List ℕ) (shut : List Bool) (i : ℕ) : Type 0 where
   pub own_long : length own ≡ most_places
   pub shut_long : length shut ≡ most_places
   pub own_done : (j : ℕ) → j < i → get_or own j 0 ≡ pick (eqb (get_or ks j 0) 1) (get_or ws j 0 + get_or ps j 0) (get_or ws j 0)
-  pub shut_done : (j : ℕ) → j < i → get_or shut j 0 ≡ get_or ks j 0
+  pub shut_done : (j : ℕ) → j < i → get_or shut j false ≡ eqb (get_or ks j 0) 1
   pub own_clear : (j : ℕ) → i ≤ j → get_or own j 0 ≡ 0
-  pub shut_clear : (j : ℕ) → i ≤ j → get_or shut j 0 ≡ 0
+  pub shut_clear : (j : ℕ) → i ≤ j → get_or shut j false ≡ false
 
-pub bare_none : {ws ks ps own shut : List ℕ} → Clear own → Clear shut → Bare ws ks ps own shut 0
+pub bare_none : {ws ks ps own : List ℕ} {shut : List Bool} → Clear 0 own → Clear false shut → Bare ws ks ps own shut 0
 bare_none o s = record {
   own_long = o.long;
   shut_long = s.long;
@@ -84,18 +85,18 @@ bare_none o s = record {
   shut_clear = λ j l. s.none j;
 }
 
-pub bare_more : {ws ks ps own shut : List ℕ} {i : ℕ} → Bare ws ks ps own shut i → i < most_places
-    → (x z : ℕ) → x ≡ pick (eqb (get_or ks i 0) 1) (get_or ws i 0 + get_or ps i 0) (get_or ws i 0) → z ≡ get_or ks i 0 → Bare ws ks ps (set own i x) (set shut i z) (i + 1)
-bare_more {ws} {ks} {ps} {own} {shut} {i} b h x z ex ez = record {
+pub bare_more : {ws ks ps own : List ℕ} {shut : List Bool} {i : ℕ} → Bare ws ks ps own shut i → i < most_places
+    → (x : ℕ) (z : Bool) → x ≡ pick (eqb (get_or ks i 0) 1) (get_or ws i 0 + get_or ps i 0) (get_or ws i 0) → z ≡ eqb (get_or ks i 0) 1 → Bare ws ks ps (set own i x) (set shut i z) (i + 1)
+bare_more {own} {shut} {i} b h x z ex ez = record {
   own_long = simp length-set b.own_long;
   shut_long = simp length-set b.shut_long;
   own_done = below_more _ i (λ j l. get_or-set_other own i j x 0 (λ e. omega arith) ∙ b.own_done j l) (get_or-set_same own i x 0 (omega (arith, b.own_long)) ∙ ex);
-  shut_done = below_more _ i (λ j l. get_or-set_other shut i j z 0 (λ e. omega arith) ∙ b.shut_done j l) (get_or-set_same shut i z 0 (omega (arith, b.shut_long)) ∙ ez);
+  shut_done = below_more _ i (λ j l. get_or-set_other shut i j z false (λ e. omega arith) ∙ b.shut_done j l) (get_or-set_same shut i z false (omega (arith, b.shut_long)) ∙ ez);
   own_clear = λ j l. get_or-set_other own i j x 0 (λ e. omega arith) ∙ b.own_clear j (omega arith);
-  shut_clear = λ j l. get_or-set_other shut i j z 0 (λ e. omega arith) ∙ b.shut_clear j (omega arith);
+  shut_clear = λ j l. get_or-set_other shut i j z false (λ e. omega arith) ∙ b.shut_clear j (omega arith);
 }
 
-module _ {n : Net} {own shut : List ℕ} {i : ℕ} (b : Bare n.wires n.kinds n.pins own shut i) where
+module _ {n : Net} {own : List ℕ} {shut : List Bool} {i : ℕ} (b : Bare n.wires n.kinds n.pins own shut i) where
   pub bare_all : SoundNet n → places n ≤ i → Parts n (offsets_on []) own shut
   unfolding own_part shut_by offsets_on
   bare_all s h = record {
@@ -107,7 +108,7 @@ module _ {n : Net} {own shut : List ℕ} {i : ℕ} (b : Bare n.wires n.kinds n.p
     ];
     shut_is = λ j. elim (dec_lt j i) [
       | yes l ↦ b.shut_done j l
-      | no l ↦ b.shut_clear j (omega arith) ∙ sym (past n.kinds j (omega (arith, s.kinds_long)))
+      | no l ↦ b.shut_clear j (omega arith) ∙ sym (rw (past n.kinds j (omega (arith, s.kinds_long))))
     ];
   }
     where
@@ -158,13 +159,13 @@ module _ (n : Net) (i : ℕ) where
   own_end [] o = hands_end 0 0 [] o
   own_end (x ∷ xs) o = hands_end 0 0 (x ∷ xs) o
 
-  shut_end : (xs : List ℕ) (o : ℕ) → shut_by n i (xs ++ (o ∷ [])) ≡ 1
+  shut_end : (xs : List ℕ) (o : ℕ) → shut_by n i (xs ++ (o ∷ [])) ≡ true
   unfolding shut_by
   shut_end [] o = refl
   shut_end (x ∷ xs) o = refl
 
-module _ {n : Net} {own shut : List ℕ} (vs os : List ℕ) (k : ℕ) (p : Parts n (offsets_to vs os k) own shut) (e : length os ≡ length vs) (h : k < length vs) (w : get_or vs k 0 < most_places) where
-  pub parts_cut : (x : ℕ) → x ≡ (wire n (get_or vs k 0) - get_or os k 0) + n.limits.pin → Parts n (offsets_to vs os (k + 1)) (set own (get_or vs k 0) x) (set shut (get_or vs k 0) 1)
+module _ {n : Net} {own : List ℕ} {shut : List Bool} (vs os : List ℕ) (k : ℕ) (p : Parts n (offsets_to vs os k) own shut) (e : length os ≡ length vs) (h : k < length vs) (w : get_or vs k 0 < most_places) where
+  pub parts_cut : (x : ℕ) → x ≡ (wire n (get_or vs k 0) - get_or os k 0) + n.limits.pin → Parts n (offsets_to vs os (k + 1)) (set own (get_or vs k 0) x) (set shut (get_or vs k 0) true)
   parts_cut x ex =
       let on : ℕ = get_or vs k 0 in
       record {
@@ -175,7 +176,7 @@ module _ {n : Net} {own shut : List ℕ} (vs os : List ℕ) (k : ℕ) (p : Parts
           | no q ↦ get_or-set_other own on i x 0 (λ z. q (sym z)) ∙ p.own_is i ∙ sym (rw (offsets_same vs os k e h i q))
         ];
         shut_is = λ i. elim (ℕ_discrete on i) [
-          | yes q ↦ rw (← q) (get_or-set_same shut on 1 0 (omega (arith, p.shut_long)) ∙ sym (rw (offsets_more vs os k e h on refl) (shut_end n on (offsets_to vs os k on) (get_or os k 0))))
-          | no q ↦ get_or-set_other shut on i 1 0 (λ z. q (sym z)) ∙ p.shut_is i ∙ sym (rw (offsets_same vs os k e h i q))
+          | yes q ↦ rw (← q) (get_or-set_same shut on true false (omega (arith, p.shut_long)) ∙ sym (rw (offsets_more vs os k e h on refl) (shut_end n on (offsets_to vs os k on) (get_or os k 0))))
+          | no q ↦ get_or-set_other shut on i true false (λ z. q (sym z)) ∙ p.shut_is i ∙ sym (rw (offsets_same vs os k e h i q))
         ];
       }

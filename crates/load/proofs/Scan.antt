@@ -3,6 +3,7 @@ use Prim.Native.Nat.{ℕ, zero, suc, ◌-◌, ◌<◌, ◌≤◌, ◌+◌}
 use mathlib.Core.Path.{◌≡◌, refl, ap, subst, ◌∙◌}
 use mathlib.Core.Bool.{Bool, true, false}
 use mathlib.Core.List.{List}
+use Rattle.std.specs.Prelude.{Option, Some, None}
 use native.Mathlib.Omega.{arith}
 use native.Mathlib.Decide.{ℕ_discrete}
 use lib.Dec.{eqb}
@@ -13,7 +14,6 @@ use Rattle.rules.specs.Tree.{Hanging, none, sink, branch, hung, hanging, under}
 use Rattle.rules.specs.Load.{hands_up, handed_by, load_below, handed_up}
 use Rattle.rules.specs.Sound.{SoundNet}
 use Rattle.rules.proofs.Hanging.{hanging_skip, hanging_take, hanging_end}
-use Rattle.load.specs.declared.Found.{Found}
 use Rattle.load.specs.Next.{Searched, NoneFrom, NoneBetween, Next, NextIs}
 use Rattle.load.proofs.Bound.{most_load, load_most}
 
@@ -66,11 +66,11 @@ pub searched : (n : Net) {parents : List ℕ} → n.parents ≡ parents → Soun
 searched n column s h l = rw (← column) (record { ordered = record { some = s.some; few = s.few; lower = s.lower }; node = h; within = l })
 
 -- what next_child answered, taken apart by its constructor, over the column that it looked at
-module _ (n : Net) {parents : List ℕ} (column : n.parents ≡ parents) (v after : ℕ) (r : Found) (x : NextIs parents v after r) where
-  pub found_child : (j : ℕ) → r ≡ Found.At j → Next n.parents v after j
+module _ (n : Net) {parents : List ℕ} (column : n.parents ≡ parents) (v after : ℕ) (r : Option ℕ) (x : NextIs parents v after r) where
+  pub found_child : (j : ℕ) → r ≡ Some j → Next n.parents v after j
   found_child j e = rw column (subst (NextIs parents v after) e x)
 
-  pub found_none : r ≡ Found.Nothing → NoneBetween n.parents v after (places n)
+  pub found_none : r ≡ None → NoneBetween n.parents v after (places n)
   found_none e = rw column (subst (NextIs parents v after) e x)
 
 module _ {n : Net} {offs : ℕ → List ℕ} {v sum after : ℕ} (s : Scan n offs v sum after) where

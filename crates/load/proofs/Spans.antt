@@ -57,7 +57,7 @@ module _ {parents : List ℕ} {p i : ℕ} (e : get_or parents i 0 ≡ p) (l : p 
 
 -- ---- the tables
 
-pub spans_none : {parents gap reach : List ℕ} → Clear gap → Clear reach → SpansTo parents 1 gap reach
+pub spans_none : {parents gap reach : List ℕ} → Clear 0 gap → Clear 0 reach → SpansTo parents 1 gap reach
 spans_none g r = record {
   gap_long = g.long;
   reach_long = r.long;

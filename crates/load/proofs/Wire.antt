@@ -13,6 +13,7 @@ use Rattle.rules.specs.Figures.{most_wire}
 use Rattle.rules.specs.Net.{Net, places, wire}
 use Rattle.rules.specs.Load.{entries, offsets_on, load_below, driven_on, driven}
 use Rattle.rules.specs.Legal.{start, Stands}
+use Rattle.load.specs.declared.Tables.{Tables}
 use Rattle.load.specs.Asks.{Placed, Weighable, AsksNode, Stacked}
 use Rattle.load.proofs.Bound.{most_load, load_most}
 use Rattle.load.proofs.Order.{at, stands_at, further_up, rising}
@@ -20,7 +21,7 @@ use Rattle.load.proofs.Begins.{Begins, begin as beginOf, begins as beginsOf}
 use Rattle.load.proofs.Offsets.{begins_rise, offsets_slice, length_drives, lowest_drives, next_drives, Counts, joined_length, joined_at}
 
 -- the source, which is no sink
-pub source_asked : {n : Net} {vs os own shut gap reach : List ℕ} → Weighable n vs os own shut gap reach → AsksNode n (offsets_on (entries vs os)) n.parents own shut gap reach 0
+pub source_asked : {n : Net} {vs os : List ℕ} {t : Tables} → Weighable n vs os t → AsksNode n (offsets_on (entries vs os)) n.parents t 0
 source_asked w = record { asks = record { column = refl; tables = w.tables; within = w.placed.sound.some }; branch = λ e. omega (arith, w.placed.sound.source) }
 
 pub stacked_by : (vs : List ℕ) (k : ℕ) → 0 < k → Stacked vs k (eqb (get_or vs (k - 1) 0) (get_or vs k 0))

@@ -1,16 +1,17 @@
 -- What the loads ask of a net and a placement.
 use Rattle.std.specs.Prelude.{ℕ, ◌-◌, ◌≤◌, ◌<◌, ◌≡◌, Bool, true, false, List, length, get_or}
-use Rattle.std.specs.Borrow.{Bor}
+use Rattle.rules.specs.declared.LentPlacement.{LentPlacement}
 use Rattle.rules.specs.Figures.{most_entries}
 use Rattle.rules.specs.Net.{Net, places, kind}
 use Rattle.rules.specs.Load.{entries, offsets_on}
 use Rattle.rules.specs.Legal.{InOrder, start}
 use Rattle.rules.specs.Sound.{SoundNet}
-use Rattle.load.specs.Tables.{Tables}
+use Rattle.load.specs.declared.Tables.{Tables}
+use Rattle.load.specs.Tables.{TablesOf}
 
--- the offsets that two lent columns give to each wire
-abbrev pub offsets_at : Bor (List ℕ) → Bor (List ℕ) → ℕ → List ℕ
-offsets_at wires offsets = offsets_on (entries wires.now offsets.now)
+-- the offsets that a lent placement gives to each wire
+abbrev pub offsets_at : LentPlacement → ℕ → List ℕ
+offsets_at lent = offsets_on (entries lent.wires.now lent.offsets.now)
 
 -- a sound net, and a placement whose entries stand on it in order
 pub record Placed (n : Net) (vs os : List ℕ) : Type 0 where
@@ -20,35 +21,35 @@ pub record Placed (n : Net) (vs os : List ℕ) : Type 0 where
   pub order : InOrder n start (entries vs os)
 
 -- the column of parents and the tables are those of a net and its offsets, and i is a wire of it (or the source)
-pub record AsksWire (n : Net) (offs : ℕ → List ℕ) (parents own shut gap reach : List ℕ) (i : ℕ) : Type 0 where
+pub record AsksWire (n : Net) (offs : ℕ → List ℕ) (parents : List ℕ) (t : Tables) (i : ℕ) : Type 0 where
   pub column : n.parents ≡ parents
-  pub tables : Tables n offs own shut gap reach
+  pub tables : TablesOf n offs t
   pub within : i < places n
 
 -- or a branch point or the source
-pub record AsksNode (n : Net) (offs : ℕ → List ℕ) (parents own shut gap reach : List ℕ) (v : ℕ) : Type 0 where
-  pub asks : AsksWire n offs parents own shut gap reach v
+pub record AsksNode (n : Net) (offs : ℕ → List ℕ) (parents : List ℕ) (t : Tables) (v : ℕ) : Type 0 where
+  pub asks : AsksWire n offs parents t v
   pub branch : kind n v ≡ 1 → ⊥
 
 -- of some net: the loads look at no other column, and what they answer holds for every net whose tables these are
-pub record AskedWire (parents own shut gap reach : List ℕ) (i : ℕ) : Type 0 where
+pub record AskedWire (parents : List ℕ) (t : Tables) (i : ℕ) : Type 0 where
   pub net : Net
   pub offs : ℕ → List ℕ
-  pub asks : AsksWire net offs parents own shut gap reach i
+  pub asks : AsksWire net offs parents t i
 
-pub record AskedNode (parents own shut gap reach : List ℕ) (v : ℕ) : Type 0 where
+pub record AskedNode (parents : List ℕ) (t : Tables) (v : ℕ) : Type 0 where
   pub net : Net
   pub offs : ℕ → List ℕ
-  pub asks : AsksNode net offs parents own shut gap reach v
+  pub asks : AsksNode net offs parents t v
 
 -- a placement, and its tables
-pub record Weighable (n : Net) (vs os own shut gap reach : List ℕ) : Type 0 where
+pub record Weighable (n : Net) (vs os : List ℕ) (t : Tables) : Type 0 where
   pub placed : Placed n vs os
-  pub tables : Tables n (offsets_on (entries vs os)) own shut gap reach
+  pub tables : TablesOf n (offsets_on (entries vs os)) t
 
 -- and an entry
-pub record AsksEntry (n : Net) (vs os own shut gap reach : List ℕ) (k : ℕ) : Type 0 where
-  pub weighable : Weighable n vs os own shut gap reach
+pub record AsksEntry (n : Net) (vs os : List ℕ) (t : Tables) (k : ℕ) : Type 0 where
+  pub weighable : Weighable n vs os t
   pub within : k < length vs
 
 -- entry k stands above another on its wire

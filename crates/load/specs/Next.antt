@@ -1,8 +1,6 @@
 -- What the search for a node's next child answers.
-use Rattle.std.specs.Prelude.{ℕ, suc, ◌≤◌, ◌<◌, ◌≡◌, List, length, get_or}
+use Rattle.std.specs.Prelude.{ℕ, suc, ◌≤◌, ◌<◌, ◌≡◌, List, Option, Some, None, length, get_or}
 use Rattle.rules.specs.Figures.{most_places}
-use Rattle.load.specs.declared.Found.{Found}
-use Rattle.load.specs.declared.Found.TheVariants.{At, Nothing}
 
 -- a parent has the smaller number (RULES 1.5)
 pub record Parents (parents : List ℕ) : Type 0 where
@@ -37,6 +35,6 @@ pub record Next (parents : List ℕ) (v after j : ℕ) : Type 0 where
   pub mine : get_or parents j 0 ≡ v
   pub first : NoneBetween parents v after j
 
-abbrev pub NextIs : List ℕ → ℕ → ℕ → Found → Type 0
-NextIs parents v after (At j) = Next parents v after j
-NextIs parents v after Nothing = NoneBetween parents v after (length parents)
+abbrev pub NextIs : List ℕ → ℕ → ℕ → Option ℕ → Type 0
+NextIs parents v after (Some j) = Next parents v after j
+NextIs parents v after None = NoneBetween parents v after (length parents)

@@ -1,25 +1,48 @@
-// What lies below a node, what a wire hands up, and what each entry drives, over lent columns.
+// What lies below a node, what a wire hands up, and what each entry drives, over a lent net and placement.
 #![tactic(auto)]
 
 ghost use Rattle.std.specs.Prelude.{◌≡◌, ℕ, ◌+◌, ◌≤◌, ◌<◌, false, List, [], eqb, length, get_or};
 ghost use Rattle.rules.specs.Choose.{pick};
-ghost use Rattle.rules.specs.Net.{Net, net_at};
+ghost use Rattle.rules.specs.Net.{Net, net_of};
 ghost use Rattle.rules.specs.Load.{load_below, handed_up, driven, offsets_on};
 ghost use Rattle.rules.specs.Sound.{SoundNet};
 ghost use Rattle.load.specs.Next.{Parents, Searched, NoneFrom, Passed, NextIs};
-ghost use Rattle.load.specs.Tables.{Clear, Spans, Parts, Tables};
+ghost use Rattle.load.specs.Tables.{Clear, ClearTables, Spans, Parts, TablesOf};
 ghost use Rattle.load.specs.Asks.{offsets_at, Placed, Stacked, AsksNode, AsksWire, AskedNode, AskedWire, AsksEntry};
 
-use rules::Limits;
+use rules::{LentNet, LentPlacement};
 
 // The places of a table over nodes.
 pub const PLACES: usize = 1025;
 
-// A child of a node, or that there is none.
+// The tables that the loads are told from. Of a wire: what it hands up by itself, and whether it asks no further down. Of a node: how far past it, less one, its
+// first child is, and how far its last.
+pub struct Tables {
+    pub own: [u32; PLACES],
+    pub shut: [bool; PLACES],
+    pub gap: [u16; PLACES],
+    pub reach: [u16; PLACES],
+}
+
+impl Tables {
+    // Before they are filled.
+    pub fn clear() -> Tables
+        ensures { ClearTables result }
+    {
+        Tables {
+            own: [0; PLACES],
+            shut: [false; PLACES],
+            gap: [0; PLACES],
+            reach: [0; PLACES],
+        }
+    }
+}
+
+// What a legal placement comes to: how many entries it has, and what the source drives.
 #[derive(Clone, Copy)]
-pub enum Found {
-    At(usize),
-    Nothing,
+pub struct Weighed {
+    pub count: usize,
+    pub source: u64,
 }
 
 // How many nodes the search for a child looks at in one go.
@@ -31,12 +54,8 @@ fn any_child(parent: &[u16], node: u16, from: usize, to: usize) -> bool
     ensures { result ≡ false → NoneFrom parent.now node from to }
 {
     let mut found = false;
-    let mut j = from;
-    while j < to {
-        if parent[j] == node {
-            found = true;
-        }
-        j += 1;
+    for j in from..to {
+        found = (parent[j] == node) | found;
     }
     found
 }
@@ -58,51 +77,44 @@ fn pass_runs(parent: &[u16], node: u16, after: usize) -> usize
 }
 
 // The lowest-numbered child of a node past another. Children often stand side by side, so the very next node is looked at first.
-pub fn next_child(parent: &[u16], node: usize, after: usize) -> Found
+pub fn next_child(parent: &[u16], node: usize, after: usize) -> Option<usize>
     requires { Searched parent.now node after }
     ensures { NextIs parent.now node after result }
 {
     let wanted = node as u16;
     let next = after + 1;
     if next == parent.len() {
-        return Found::Nothing;
+        return None;
     }
     if parent[next] == wanted {
-        return Found::At(next);
+        return Some(next);
     }
-    let mut j = pass_runs(parent, wanted, after);
-    while j < parent.len() {
+    for j in pass_runs(parent, wanted, after)..parent.len() {
         if parent[j] == wanted {
-            return Found::At(j);
+            return Some(j);
         }
-        j += 1;
     }
-    Found::Nothing
+    None
 }
 
 // How far the first child is past the node, less one: kept where a child has been seen.
 fn first_gap(reach: u16, gap: u16, apart: u16) -> u16
     ensures { result ≡ pick (eqb reach 0) apart gap }
 {
-    if reach == 0 {
-        return apart;
-    }
-    gap
+    if reach == 0 { apart } else { gap }
 }
 
 // How far past each node its last child is, and how far the nodes reach that are before its first: one pass over the parents.
 fn span_children(parent: &[u16], gap: &mut [u16; PLACES], reach: &mut [u16; PLACES])
     requires parents { Parents parent.now }
-    requires clear { Clear gap.old × Clear reach.old }
+    requires clear { Clear 0 gap.old × Clear 0 reach.old }
     ensures { Spans parent.now gap.new reach.new }
 {
-    let mut i = 1;
-    while i < parent.len() {
+    for i in 1..parent.len() {
         let p = parent[i] as usize;
         let past = (i - p) as u16;
         gap[p] = first_gap(reach[p], gap[p], past - 1);
         reach[p] = past;
-        i += 1;
     }
 }
 
@@ -118,105 +130,61 @@ fn bare(size: u32, kind: u8, pin: u32) -> u32
 }
 
 // The parts of all wires while there are no entries: only those above a sink ask no further down.
-fn bare_parts(
-    limits: Limits,
-    parent: &[u16],
-    wire: &[u32],
-    kind: &[u8],
-    pin: &[u32],
-    polarity: &[u8],
-    own: &mut [u32; PLACES],
-    shut: &mut [u8; PLACES],
-)
-    requires sound_net { SoundNet (net_at limits parent wire kind pin polarity) }
-    requires clear { Clear own.old × Clear shut.old }
-    ensures { Parts (net_at limits parent.entry wire.entry kind.entry pin.entry polarity.entry) (offsets_on []) own.new shut.new }
+fn bare_parts(net: &LentNet, own: &mut [u32; PLACES], shut: &mut [bool; PLACES])
+    requires sound_net { SoundNet (net_of net.now) }
+    requires clear { Clear 0 own.old × Clear false shut.old }
+    ensures { Parts (net_of net.now) (offsets_on []) own.new shut.new }
 {
-    let mut i = 0;
-    while i < wire.len() {
-        let above = kind[i];
-        own[i] = bare(wire[i], above, pin[i]);
-        shut[i] = above;
-        i += 1;
+    for i in 0..net.wire.len() {
+        let kind = net.kind[i];
+        own[i] = bare(net.wire[i], kind, net.pin[i]);
+        shut[i] = kind == 1;
     }
 }
 
 // The entries, each in its turn: above its topmost one a wire hands up "w - om + C_b", and asks no further down.
 fn cut_parts(
-    limits: Limits,
-    parent: &[u16],
-    wire: &[u32],
-    kind: &[u8],
-    pin: &[u32],
-    polarity: &[u8],
-    wires: &[u16],
-    offsets: &[u32],
+    net: &LentNet,
+    placement: &LentPlacement,
     own: &mut [u32; PLACES],
-    shut: &mut [u8; PLACES],
+    shut: &mut [bool; PLACES],
 )
-    requires placed { Placed (net_at limits parent wire kind pin polarity) wires.now offsets.now }
-    requires parts { Parts (net_at limits parent wire kind pin polarity) (offsets_on []) own.old shut.old }
-    ensures { Parts (net_at limits parent.entry wire.entry kind.entry pin.entry polarity.entry) (offsets_at wires.entry offsets.entry) own.new shut.new }
+    requires placed { Placed (net_of net.now) placement.now.wires.now placement.now.offsets.now }
+    requires parts { Parts (net_of net.now) (offsets_on []) own.old shut.old }
+    ensures { Parts (net_of net.now) (offsets_at placement.now) own.new shut.new }
 {
-    let mut k = 0;
-    while k < wires.len() {
-        let on = wires[k] as usize;
-        let offset = offsets[k];
-        let size = wire[on];
-        own[on] = size - offset + limits.pin;
-        shut[on] = 1;
-        k += 1;
+    for k in 0..placement.wires.len() {
+        let on = placement.wires[k] as usize;
+        own[on] = net.wire[on] - placement.offsets[k] + net.limits.pin;
+        shut[on] = true;
     }
 }
 
-// The four tables that the loads are told from, all clear before.
-pub fn make_tables(
-    limits: Limits,
-    parent: &[u16],
-    wire: &[u32],
-    kind: &[u8],
-    pin: &[u32],
-    polarity: &[u8],
-    wires: &[u16],
-    offsets: &[u32],
-    own: &mut [u32; PLACES],
-    shut: &mut [u8; PLACES],
-    gap: &mut [u16; PLACES],
-    reach: &mut [u16; PLACES],
-)
-    requires placed { Placed (net_at limits parent wire kind pin polarity) wires.now offsets.now }
-    requires clear { Clear own.old × Clear shut.old × Clear gap.old × Clear reach.old }
-    ensures { Tables (net_at limits parent.entry wire.entry kind.entry pin.entry polarity.entry) (offsets_at wires.entry offsets.entry) own.new shut.new gap.new reach.new }
+// Fills the tables, clear before.
+pub fn make_tables(net: &LentNet, placement: &LentPlacement, tables: &mut Tables)
+    requires placed { Placed (net_of net.now) placement.now.wires.now placement.now.offsets.now }
+    requires clear { ClearTables tables.old }
+    ensures { TablesOf (net_of net.now) (offsets_at placement.now) tables.new }
 {
-    span_children(parent, gap, reach);
-    bare_parts(limits, parent, wire, kind, pin, polarity, own, shut);
-    cut_parts(
-        limits, parent, wire, kind, pin, polarity, wires, offsets, own, shut,
-    );
+    span_children(net.parent, &mut tables.gap, &mut tables.reach);
+    bare_parts(net, &mut tables.own, &mut tables.shut);
+    cut_parts(net, placement, &mut tables.own, &mut tables.shut);
 }
 
 // What lies below a branch point or the source: the sum of what the wires below it hand up. The tables spare the search before its first child and past its last.
 #[cycle(handed_up_load_below)]
-pub fn load_below(
-    parent: &[u16],
-    own: &[u32; PLACES],
-    shut: &[u8; PLACES],
-    gap: &[u16; PLACES],
-    reach: &[u16; PLACES],
-    node: usize,
-) -> u64
-    requires { AskedNode parent.now own.now shut.now gap.now reach.now node }
-    ensures { (n : Net) (offs : ℕ → List ℕ) → AsksNode n offs parent.now own.now shut.now gap.now reach.now node → result ≡ load_below n offs node }
+pub fn load_below(parent: &[u16], tables: &Tables, node: usize) -> u64
+    requires { AskedNode parent.now tables.now node }
+    ensures { (n : Net) (offs : ℕ → List ℕ) → AsksNode n offs parent.now tables.now node → result ≡ load_below n offs node }
 {
     let mut sum: u64 = 0;
-    let mut after = node + gap[node] as usize;
-    let last = node + reach[node] as usize;
+    let mut after = node + tables.gap[node] as usize;
+    let last = node + tables.reach[node] as usize;
     while after < last {
-        let next = next_child(parent, node, after);
-        let Found::At(j) = next else {
+        let Some(j) = next_child(parent, node, after) else {
             return sum;
         };
-        sum += handed_up(parent, own, shut, gap, reach, j);
+        sum += handed_up(parent, tables, j);
         after = j;
     }
     sum
@@ -224,22 +192,15 @@ pub fn load_below(
 
 // What a wire hands up: its own part, and where it has no entries what lies below its lower node.
 #[cycle(handed_up_load_below)]
-pub fn handed_up(
-    parent: &[u16],
-    own: &[u32; PLACES],
-    shut: &[u8; PLACES],
-    gap: &[u16; PLACES],
-    reach: &[u16; PLACES],
-    i: usize,
-) -> u64
-    requires { AskedWire parent.now own.now shut.now gap.now reach.now i }
-    ensures { (n : Net) (offs : ℕ → List ℕ) → AsksWire n offs parent.now own.now shut.now gap.now reach.now i → result ≡ handed_up n offs i }
+pub fn handed_up(parent: &[u16], tables: &Tables, i: usize) -> u64
+    requires { AskedWire parent.now tables.now i }
+    ensures { (n : Net) (offs : ℕ → List ℕ) → AsksWire n offs parent.now tables.now i → result ≡ handed_up n offs i }
 {
-    let part = own[i] as u64;
-    if shut[i] == 1 {
+    let part = tables.own[i] as u64;
+    if tables.shut[i] {
         return part;
     }
-    part + load_below(parent, own, shut, gap, reach, i)
+    part + load_below(parent, tables, i)
 }
 
 // Whether an entry stands above another on its wire.
@@ -254,33 +215,19 @@ fn stacked(wires: &[u16], k: usize) -> bool
 }
 
 // What an entry drives: the lowest on its wire its offset and what lies below the node, each next its offset less the one before and C_b.
-pub fn drives(
-    limits: Limits,
-    parent: &[u16],
-    wire: &[u32],
-    kind: &[u8],
-    pin: &[u32],
-    polarity: &[u8],
-    wires: &[u16],
-    offsets: &[u32],
-    own: &[u32; PLACES],
-    shut: &[u8; PLACES],
-    gap: &[u16; PLACES],
-    reach: &[u16; PLACES],
-    k: usize,
-) -> u64
-    requires { AsksEntry (net_at limits parent wire kind pin polarity) wires.now offsets.now own.now shut.now gap.now reach.now k }
-    ensures { result ≡ get_or (driven (net_at limits parent.entry wire.entry kind.entry pin.entry polarity.entry) (offsets_at wires.entry offsets.entry)) k 0 }
+pub fn drives(net: &LentNet, placement: &LentPlacement, tables: &Tables, k: usize) -> u64
+    requires { AsksEntry (net_of net.now) placement.now.wires.now placement.now.offsets.now tables.now k }
+    ensures { result ≡ get_or (driven (net_of net.now) (offsets_at placement.now)) k 0 }
 {
-    let i = wires[k] as usize;
-    let offset = offsets[k] as u64;
-    if stacked(wires, k) {
-        let before = offsets[k - 1] as u64;
-        return offset - before + limits.pin as u64;
+    let i = placement.wires[k] as usize;
+    let offset = placement.offsets[k] as u64;
+    if stacked(placement.wires, k) {
+        let before = placement.offsets[k - 1] as u64;
+        return offset - before + net.limits.pin as u64;
     }
-    if kind[i] == 1 {
-        let sink = pin[i] as u64;
+    if net.kind[i] == 1 {
+        let sink = net.pin[i] as u64;
         return offset + sink;
     }
-    offset + load_below(parent, own, shut, gap, reach, i)
+    offset + load_below(net.parent, tables, i)
 }

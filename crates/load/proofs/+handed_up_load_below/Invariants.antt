@@ -16,7 +16,7 @@ abbrev pub decreases-load_below : goal.decreases-load_below
 decreases-load_below l = 2 * (1024 - l.node)
 
 abbrev pub invariant-load_below-loop-after : goal.invariant-load_below-loop-after
-invariant-load_below-loop-after l = (n : Net) (offs : ℕ → List ℕ) → AsksNode n offs l.parent l.own l.shut l.gap l.reach l.node → Scan n offs l.node l.sum l.after
+invariant-load_below-loop-after l = (n : Net) (offs : ℕ → List ℕ) → AsksNode n offs l.parent l.tables l.node → Scan n offs l.node l.sum l.after
 
 abbrev pub decreases-load_below-loop-after : goal.decreases-load_below-loop-after
 decreases-load_below-loop-after l = length l.parent - l.after

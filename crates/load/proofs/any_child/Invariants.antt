@@ -1,5 +1,4 @@
 -- `load::any_child` meets its contract. The invariant: while none is found, none of the nodes before j is a child.
-use Prim.Native.Nat.{◌-◌}
 use mathlib.Core.Path.{◌≡◌}
 use mathlib.Core.Bool.{false}
 use Rattle.load.specs.Next.{NoneFrom}
@@ -7,6 +6,3 @@ use Rattle.load.proofs.any_child.Given as goal
 
 abbrev pub invariant-loop-j : goal.invariant-loop-j
 invariant-loop-j l = l.found ≡ false → NoneFrom l.parent l.node l.from l.j
-
-abbrev pub decreases-loop-j : goal.decreases-loop-j
-decreases-loop-j l = l.to - l.j

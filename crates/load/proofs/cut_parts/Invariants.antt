@@ -1,13 +1,8 @@
 -- `load::cut_parts` meets its contract. The invariant: the tables are right for a placement of the first k entries.
-use Prim.Native.Nat.{◌≤◌, ◌-◌}
-use lib.ListN.{length}
-use Rattle.rules.specs.Net.{net}
+use Rattle.rules.specs.Net.{net_of}
 use Rattle.load.specs.Tables.{Parts}
 use Rattle.load.proofs.Parts.{offsets_to}
 use Rattle.load.proofs.cut_parts.Given as goal
 
 abbrev pub invariant-loop-k : goal.invariant-loop-k
-invariant-loop-k l = (l.k ≤ length l.wires) × Parts (net l.limits l.parent l.wire l.kind l.pin l.polarity) (offsets_to l.wires l.offsets l.k) l.own l.shut
-
-abbrev pub decreases-loop-k : goal.decreases-loop-k
-decreases-loop-k l = length l.wires - l.k
+invariant-loop-k l = Parts (net_of l.net) (offsets_to l.placement.wires.now l.placement.offsets.now l.k) l.own l.shut

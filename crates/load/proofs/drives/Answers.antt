@@ -4,8 +4,9 @@ use Prim.Native.Nat.{ℕ}
 use mathlib.Core.List.{List}
 use native.Mathlib.Omega.{arith}
 use lib.ListN.{get_or}
-use Rattle.rules.specs.Net.{Net, net_at, kind}
+use Rattle.rules.specs.Net.{Net, net_of, kind}
 use Rattle.rules.specs.Load.{entries, offsets_on}
+use Rattle.load.specs.declared.Tables.{Tables}
 use Rattle.load.specs.Asks.{AsksEntry, AsksNode, offsets_at}
 use Rattle.load.proofs.Bound.{load_most}
 use Rattle.load.proofs.Scan.{load_sink}
@@ -13,66 +14,39 @@ use Rattle.load.proofs.Wire.{wire_within, offset_most, drives_lowest, drives_nex
 use Rattle.load.proofs.drives.Goals as goal
 
 -- the lowest entry of a wire above a branch point asks what lies below that point
-node_asked : {n : Net} {vs os own shut gap reach : List ℕ} {k : ℕ} → AsksEntry n vs os own shut gap reach k → (kind n (get_or vs k 0) ≡ 1 → ⊥)
-    → AsksNode n (offsets_on (entries vs os)) n.parents own shut gap reach (get_or vs k 0)
-node_asked {n} {vs} {os} {own} {shut} {gap} {reach} {k} a b =
+node_asked : {n : Net} {vs os : List ℕ} {t : Tables} {k : ℕ} → AsksEntry n vs os t k → (kind n (get_or vs k 0) ≡ 1 → ⊥)
+    → AsksNode n (offsets_on (entries vs os)) n.parents t (get_or vs k 0)
+node_asked {n} {vs} {os} {k} a b =
     record { asks = record { column = refl; tables = a.weighable.tables; within = wire_within a.weighable.placed k a.within }; branch = b }
-
-pub overflow_cast-i : goal.overflow_cast-i
-overflow_cast-i c = omega (arith, wire_within c.requires.weighable.placed c.args.k c.requires.within, c.requires.weighable.placed.sound.few)
-
-pub overflow_cast-offset : goal.overflow_cast-offset
-overflow_cast-offset c = omega (arith, offset_most c.requires.weighable.placed c.args.k c.requires.within)
-
-pub overflow_sub-before : goal.overflow_sub-before
-overflow_sub-before c = omega (arith, (rw c.if-stacked.true at c.stacked.ensures).0)
-
-pub overflow_cast-before : goal.overflow_cast-before
-overflow_cast-before c = omega (arith, before_lower c.requires.weighable.placed c.args.k c.requires.within (rw c.if-stacked.true at c.stacked.ensures), offset_most c.requires.weighable.placed c.args.k c.requires.within)
 
 pub overflow_sub-result : goal.overflow_sub-result
 overflow_sub-result c = before_lower c.requires.weighable.placed c.args.k c.requires.within (rw c.if-stacked.true at c.stacked.ensures)
 
-pub overflow_add-result : goal.overflow_add-result
-overflow_add-result c = omega (arith, offset_most c.requires.weighable.placed c.args.k c.requires.within, c.requires.weighable.placed.sound.half, c.requires.weighable.placed.sound.limit_most)
-
 pub returns-then-stacked : goal.returns-then-stacked
 returns-then-stacked c = sym (drives_next c.requires.weighable.placed c.args.k c.requires.within (rw c.if-stacked.true at c.stacked.ensures))
 
-pub bounds-kind-i : goal.bounds-kind-i
-bounds-kind-i c = omega (arith, wire_within c.requires.weighable.placed c.args.k c.requires.within, c.requires.weighable.placed.sound.kinds_long)
+pub bounds-net-i : goal.bounds-net-i
+bounds-net-i c = omega (arith, wire_within c.requires.weighable.placed c.args.k c.requires.within, c.requires.weighable.placed.sound.kinds_long)
 
-pub offset_bounds-pin-i : goal.offset_bounds-pin-i
-offset_bounds-pin-i c = omega (arith, wire_within c.requires.weighable.placed c.args.k c.requires.within, c.requires.weighable.placed.sound.few)
-
-pub bounds-pin-i : goal.bounds-pin-i
-bounds-pin-i c = omega (arith, wire_within c.requires.weighable.placed c.args.k c.requires.within, c.requires.weighable.placed.sound.pins_long)
-
-pub overflow_cast-sink : goal.overflow_cast-sink
-overflow_cast-sink c = omega (arith, c.requires.weighable.placed.sound.pin_most (get_or c.args.wires.now c.args.k 0))
-
-pub overflow_add-result-then-kind-i-eq1 : goal.overflow_add-result-then-kind-i-eq1
-overflow_add-result-then-kind-i-eq1 c = omega (arith, offset_most c.requires.weighable.placed c.args.k c.requires.within, c.requires.weighable.placed.sound.pin_most (get_or c.args.wires.now c.args.k 0))
-
-pub returns-then-kind-i-eq1 : goal.returns-then-kind-i-eq1
-returns-then-kind-i-eq1 c = omega (arith, drives_lowest c.requires.weighable.placed c.args.k c.requires.within (rw c.if-stacked.false at c.stacked.ensures), load_sink (net_at c.args.limits c.args.parent c.args.wire c.args.kind c.args.pin c.args.polarity) (offsets_at c.args.wires c.args.offsets) (get_or c.args.wires.now c.args.k 0) c.if-kind-i-eq1.true)
+pub returns-then-net-i-eq1 : goal.returns-then-net-i-eq1
+returns-then-net-i-eq1 c = omega (arith, drives_lowest c.requires.weighable.placed c.args.k c.requires.within (rw c.if-stacked.false at c.stacked.ensures), load_sink (net_of c.args.net.now) (offsets_at c.args.placement.now) (get_or c.args.placement.now.wires.now c.args.k 0) c.if-net-i-eq1.true)
 
 pub load_below-requires : goal.load_below-requires
-load_below-requires c = record { net = _; offs = _; asks = node_asked c.requires c.if-kind-i-eq1.false }
+load_below-requires c = record { net = _; offs = _; asks = node_asked c.requires c.if-net-i-eq1.false }
 
 pub overflow_add-result-2 : goal.overflow_add-result-2
 overflow_add-result-2 c =
     omega (
       arith,
       offset_most c.requires.weighable.placed c.args.k c.requires.within,
-      c.load_below.ensures _ _ (node_asked c.requires c.if-kind-i-eq1.false),
-      load_most c.requires.weighable.placed.sound (offsets_at c.args.wires c.args.offsets) _ (wire_within c.requires.weighable.placed c.args.k c.requires.within),
+      c.load_below.ensures _ _ (node_asked c.requires c.if-net-i-eq1.false),
+      load_most c.requires.weighable.placed.sound (offsets_at c.args.placement.now) _ (wire_within c.requires.weighable.placed c.args.k c.requires.within),
     )
 
 pub returns : goal.returns
 returns c =
     omega (
       arith,
-      c.load_below.ensures _ _ (node_asked c.requires c.if-kind-i-eq1.false),
+      c.load_below.ensures _ _ (node_asked c.requires c.if-net-i-eq1.false),
       drives_lowest c.requires.weighable.placed c.args.k c.requires.within (rw c.if-stacked.false at c.stacked.ensures),
     )
