@@ -1,4 +1,6 @@
 -- What stands where one tag is due, by the byte that stands there: a field that was got or cut has the tag of its first byte.
+use Rattle.std.specs.Prelude.{Ok, Err, Result}
+use Rattle.rules.specs.declared.Refusal.{Refusal}
 use Prim.Native.Nat.{ℕ, ◌+◌, ◌≤◌}
 use native.Mathlib.Omega.{arith}
 use mathlib.Core.Path.{◌≡◌, refl, ap, ◌∙◌}
@@ -13,20 +15,18 @@ use Rattle.rules.specs.Choose.{pick}
 use Rattle.rules.proofs.Tests.{never}
 use Rattle.field.specs.declared.Value.{Value}
 use Rattle.field.specs.declared.Field.{Field}
-use Rattle.field.specs.declared.FieldRead.{FieldRead}
-use Rattle.field.specs.declared.FieldRead.TheVariants.{Got, Cut, Refused}
-use Rattle.field.specs.declared.DueRead.{DueRead}
-use Rattle.field.specs.declared.DueRead.TheVariants.{Got as Found, Refused as Missing}
+use Rattle.field.specs.declared.NoField.{NoField}
+use Rattle.field.specs.declared.NoField.TheVariants.{Cut, Refused}
 use Rattle.field.specs.Format.{number_at, length_of, tag_of, value_in, field_in, field_at, cut_at, due_in, due_at, read_place, due_place}
 use Rattle.field.proofs.Numbers.{AreBytes}
 use Rattle.field.proofs.Reading.{read_place_lem}
 use Rattle.field.proofs.RoundTrip.{kept}
 
 -- what is found where the tag that stands there is the one that is due
-abbrev pub as_due : FieldRead → DueRead
-as_due (Got f) = Found f
-as_due (Cut t place) = Missing (FileEnds place)
-as_due (Refused r) = Missing r
+abbrev pub as_due : Result Field NoField → Result Field Refusal
+as_due (Ok f) = Ok f
+as_due (Err (Cut t place)) = Err (FileEnds place)
+as_due (Err (Refused r)) = Err r
 
 module _ (at : ℕ) (l : List ℕ) (by : AreBytes l) where
   tagged : eqb (number_at 2 l 1) (length_of (get_or l 0 0)) ≡ true → tag_of (value_in (get_or l 0 0) l) ≡ get_or l 0 0
@@ -37,36 +37,36 @@ module _ (at : ℕ) (l : List ℕ) (by : AreBytes l) where
   this_due {tag} is = go (ltb (length l) 3) (eqb (number_at 2 l 1) (length_of (get_or l 0 0))) (ltb (length l) (3 + length_of (get_or l 0 0))) (get_or l 0 0) (value_in (get_or l 0 0) l) tagged (eq-eqb _ _ is)
     where
       go : (a b c : Bool) (t : ℕ) (v : Value) → (b ≡ true → tag_of v ≡ t) → eqb t tag ≡ true
-          → as_due (pick a (Refused (FileEnds at)) (pick b (pick c (Cut t at) (Got (record { at = at; value = v }))) (Refused (NotDue at)))) ≡ due_in tag (pick a (Refused (FileEnds at)) (pick b (pick c (Cut t at) (Got (record { at = at; value = v }))) (Refused (NotDue at))))
+          → as_due (pick a (Err (Refused (FileEnds at))) (pick b (pick c (Err (Cut t at)) (Ok (record { at = at; value = v }))) (Err (Refused (NotDue at))))) ≡ due_in tag (pick a (Err (Refused (FileEnds at))) (pick b (pick c (Err (Cut t at)) (Ok (record { at = at; value = v }))) (Err (Refused (NotDue at)))))
       go true b c t v k e = refl
       go false false c t v k e = refl
       go false true true t v k e = rw e
       go false true false t v k e = let q : eqb (tag_of v) tag ≡ true = ap (λ (x : ℕ). eqb x tag) (k refl) ∙ e in rw q
 
-  pub other_due : {tag : ℕ} → 3 ≤ length l → (get_or l 0 0 ≡ tag → ⊥) → Missing (NotDue at) ≡ due_in tag (field_in at l)
+  pub other_due : {tag : ℕ} → 3 ≤ length l → (get_or l 0 0 ≡ tag → ⊥) → Err (NotDue at) ≡ due_in tag (field_in at l)
   unfolding field_in
   other_due {tag} room not = simp (le-ltb _ _ room) (go (eqb (number_at 2 l 1) (length_of (get_or l 0 0))) (ltb (length l) (3 + length_of (get_or l 0 0))) (get_or l 0 0) (value_in (get_or l 0 0) l) tagged (ne_eqb _ _ not))
     where
-      go : (b c : Bool) (t : ℕ) (v : Value) → (b ≡ true → tag_of v ≡ t) → eqb t tag ≡ false → Missing (NotDue at) ≡ due_in tag (pick b (pick c (Cut t at) (Got (record { at = at; value = v }))) (Refused (NotDue at)))
+      go : (b c : Bool) (t : ℕ) (v : Value) → (b ≡ true → tag_of v ≡ t) → eqb t tag ≡ false → Err (NotDue at) ≡ due_in tag (pick b (pick c (Err (Cut t at)) (Ok (record { at = at; value = v }))) (Err (Refused (NotDue at))))
       go false c t v k e = refl
       go true true t v k e = rw e
       go true false t v k e = let q : eqb (tag_of v) tag ≡ false = ap (λ (x : ℕ). eqb x tag) (k refl) ∙ e in rw q
 
 -- what was found is what was read, and of the tag that is due
-pub found : (tag : ℕ) (r : FieldRead) {f : Field} → due_in tag r ≡ Found f → (r ≡ Got f) × (tag_of f.value ≡ tag)
-found tag (Got g) {f} e = by (eqb (tag_of g.value) tag) refl e
+pub found : (tag : ℕ) (r : Result Field NoField) {f : Field} → due_in tag r ≡ Ok f → (r ≡ Ok f) × (tag_of f.value ≡ tag)
+found tag (Ok g) {f} e = by (eqb (tag_of g.value) tag) refl e
   where
-    by : (b : Bool) → eqb (tag_of g.value) tag ≡ b → pick b (Found g) (Missing (NotDue g.at)) ≡ Found f → (Got g ≡ Got f) × (tag_of f.value ≡ tag)
-    by true t h = let same : g ≡ f = cc in (ap Got same, rw same at (eqb-true (tag_of g.value) tag t))
+    by : (b : Bool) → eqb (tag_of g.value) tag ≡ b → pick b (Ok g) (Err (NotDue g.at)) ≡ Ok f → ◌≡◌ {A = Result Field NoField} (Ok g) (Ok f) × (tag_of f.value ≡ tag)
+    by true t h = let same : g ≡ f = cc in (ap Ok same, rw same at (eqb-true (tag_of g.value) tag t))
     by false t h = never (cc)
-found tag (Cut t place) e = never (cc)
-found tag (Refused r) e = never (cc)
+found tag (Err (Cut t place)) e = never (cc)
+found tag (Err (Refused r)) e = never (cc)
 
 -- the place is where the field begins, here too
 pub due_place_lem : (tag : ℕ) (s : List ℕ) (at : ℕ) → due_place (due_at tag s at) ≡ at
 due_place_lem tag s at = of (field_at s at) ∙ read_place_lem s at
   where
-    of_got : (b : Bool) (f : Field) → due_place (pick b (Found f) (Missing (NotDue f.at))) ≡ f.at
+    of_got : (b : Bool) (f : Field) → due_place (pick b (Ok f) (Err (NotDue f.at))) ≡ f.at
     of_got true f = refl
     of_got false f = refl
 
@@ -74,7 +74,7 @@ due_place_lem tag s at = of (field_at s at) ∙ read_place_lem s at
     of_cut true place = refl
     of_cut false place = refl
 
-    of : (r : FieldRead) → due_place (due_in tag r) ≡ read_place r
-    of (Got f) = of_got (eqb (tag_of f.value) tag) f
-    of (Cut t place) = of_cut (eqb t tag) place
-    of (Refused r) = refl
+    of : (r : Result Field NoField) → due_place (due_in tag r) ≡ read_place r
+    of (Ok f) = of_got (eqb (tag_of f.value) tag) f
+    of (Err (Cut t place)) = of_cut (eqb t tag) place
+    of (Err (Refused r)) = refl

@@ -1,4 +1,6 @@
 -- The numbers that reading a field gives: each exactly where its row says, over the bytes of the file at the place.
+use Rattle.std.specs.Prelude.{Result}
+use Rattle.std.specs.Prelude.{Ok, Err}
 use Prim.Native.Nat.{ℕ, ◌+◌, ◌<◌, ◌≤◌}
 use native.Mathlib.Omega.{arith}
 use native.Mathlib.Nat.{add-zero}
@@ -16,9 +18,8 @@ use Rattle.rules.specs.declared.Refusal.TheVariants.{FileEnds, NotDue}
 use Rattle.rules.specs.Choose.{pick}
 use Rattle.rules.specs.Refusal.{number_of, place_of}
 use Rattle.field.specs.declared.Field.{Field}
-use Rattle.field.specs.declared.FieldRead.{FieldRead}
-use Rattle.field.specs.declared.FieldRead.TheVariants.{Got, Cut, Refused}
-use Rattle.field.specs.declared.DueRead.TheVariants.{Got as Found, Refused as Missing}
+use Rattle.field.specs.declared.NoField.{NoField}
+use Rattle.field.specs.declared.NoField.TheVariants.{Cut, Refused}
 use Rattle.field.specs.Format.{number_at, length_of, value_in, field_at, due_in, due_at, read_number, due_number}
 use Rattle.field.proofs.Numbers.{AreBytes}
 use Rattle.field.proofs.Reading.{short, not_due, cut, got}
@@ -50,20 +51,20 @@ module _ (s : List ℕ) (at : ℕ) where
   long h = omega (arith, length-drop at s)
 
   -- what is read, by the bytes
-  short_is : length s < at + 3 → Refused (FileEnds at) ≡ field_at s at
+  short_is : length s < at + 3 → Err (Refused (FileEnds at)) ≡ field_at s at
   short_is h = short at (drop at s) (omega (arith, length-drop at s))
 
-  other_is : at + 3 ≤ length s → (number_at 2 s (at + 1) ≡ length_of (get_or s at 0) → ⊥) → Refused (NotDue at) ≡ field_at s at
+  other_is : at + 3 ≤ length s → (number_at 2 s (at + 1) ≡ length_of (get_or s at 0) → ⊥) → Err (Refused (NotDue at)) ≡ field_at s at
   other_is h n = not_due at (drop at s) (long h) refl refl (λ e. n (sym said_length ∙ e ∙ ap length_of first_byte))
 
   module _ (h : Headed s at) where
     says_so : number_at 2 (drop at s) 1 ≡ length_of (get_or (drop at s) 0 0)
     says_so = said_length ∙ h.says ∙ ap length_of (sym first_byte)
 
-    cut_is : length s < at + 3 + length_of (get_or s at 0) → Cut (get_or s at 0) at ≡ field_at s at
-    cut_is l = ap (λ (t : ℕ). Cut t at) (sym first_byte) ∙ cut at (drop at s) (long h.whole) refl refl says_so (omega (arith, l, length-drop at s, ap length_of first_byte, h.whole))
+    cut_is : length s < at + 3 + length_of (get_or s at 0) → Err (Cut (get_or s at 0) at) ≡ field_at s at
+    cut_is l = ap (λ (t : ℕ). Err (Cut t at)) (sym first_byte) ∙ cut at (drop at s) (long h.whole) refl refl says_so (omega (arith, l, length-drop at s, ap length_of first_byte, h.whole))
 
-    got_is : at + 3 + length_of (get_or s at 0) ≤ length s → Got (there s at) ≡ field_at s at
+    got_is : at + 3 + length_of (get_or s at 0) ≤ length s → Ok (there s at) ≡ field_at s at
     got_is l = got at (drop at s) (long h.whole) refl refl says_so (omega (arith, l, length-drop at s, ap length_of first_byte)) refl
 
 -- the four ways that the bytes can be
@@ -93,7 +94,7 @@ pub data FieldRow (due : ℕ → Bool) (s : List ℕ) (at k : ℕ) : Type 0 wher
   body_not_due : Headed s at → length s < at + 3 + length_of (get_or s at 0) → due (get_or s at 0) ≡ false → k ≡ 2 → FieldRow due s at k
 
 module _ (due : ℕ → Bool) (s : List ℕ) (at : ℕ) where
-  given : {r : FieldRead} → r ≡ field_at s at → read_number due (field_at s at) ≡ read_number due r
+  given : {r : Result Field NoField} → r ≡ field_at s at → read_number due (field_at s at) ≡ read_number due r
   given e = ap (read_number due) (sym e)
 
   row_given : {k : ℕ} → FieldRow due s at k → read_number due (field_at s at) ≡ k
@@ -138,17 +139,17 @@ module _ (tag : ℕ) (s : List ℕ) (by : AreBytes s) (at : ℕ) where
   -- the refusal that goes with a reason
   pub record Said (k : ℕ) : Type 0 where
     pub why : Refusal
-    pub is : due_at tag s at ≡ Missing why
+    pub is : due_at tag s at ≡ Err why
     pub number : number_of why ≡ k
     pub place : place_of why ≡ at
 
   bytes_there : AreBytes (drop at s)
   bytes_there k = rw get_or-drop (by (at + k))
 
-  tag_there : {r : FieldRead} → get_or s at 0 ≡ tag → r ≡ field_at s at → due_at tag s at ≡ as_due r
+  tag_there : {r : Result Field NoField} → get_or s at 0 ≡ tag → r ≡ field_at s at → due_at tag s at ≡ as_due r
   tag_there t e = sym (this_due at (drop at s) bytes_there (first_byte s at ∙ t)) ∙ ap as_due (sym e)
 
-  pub holds_found : Holds tag s at → due_at tag s at ≡ Found (there s at)
+  pub holds_found : Holds tag s at → due_at tag s at ≡ Ok (there s at)
   holds_found h = tag_there h.tagged (got_is s at h.headed (rw (← h.tagged) at h.whole))
 
   pub lacks_missing : {k : ℕ} → Lacks tag s at k → Said k

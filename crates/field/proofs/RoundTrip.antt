@@ -1,5 +1,6 @@
 -- A field's bytes read back are the field, and a field that was read stands in the file byte for byte: tag, length and value are one row of numbers,
 -- and a row comes back from its bytes and the bytes from the row.
+use Rattle.std.specs.Prelude.{Ok, Err}
 use Prim.Native.Nat.{ℕ, ◌+◌, ◌-◌, ◌<◌, ◌≤◌}
 use native.Mathlib.Omega.{arith}
 use mathlib.Core.Path.{◌≡◌, refl, sym, ap, subst, ◌∙◌}
@@ -13,7 +14,7 @@ use Rattle.rules.specs.declared.Refusal.TheVariants.{FileEnds, NotDue}
 use Rattle.field.specs.declared.Value.{Value}
 use Rattle.field.specs.declared.Value.TheVariants.{Limits, Branch, Sink, Count, Entry, End}
 use Rattle.field.specs.declared.Field.{Field}
-use Rattle.field.specs.declared.FieldRead.TheVariants.{Got, Cut, Refused}
+use Rattle.field.specs.declared.NoField.TheVariants.{Cut, Refused}
 use Rattle.rules.specs.Choose.{pick}
 use Rattle.rules.proofs.Tests.{never}
 use Rattle.field.specs.Format.{number_at, numbers_at, bytes_of_all, sum, table, lookup, widths_of, length_of, tag_of, numbers_of, value_of, value_in, field_in, field_at, bytes_of, Fitting}
@@ -30,7 +31,7 @@ shape (Count n) = (refl, omega arith)
 shape (Entry e) = (refl, omega arith)
 shape End = (refl, omega arith)
 
-pub read_written : (at : ℕ) (v : Value) (rest : List ℕ) → Fitting v → field_in at (bytes_of v ++ rest) ≡ Got (record { at = at; value = v })
+pub read_written : (at : ℕ) (v : Value) (rest : List ℕ) → Fitting v → field_in at (bytes_of v ++ rest) ≡ Ok (record { at = at; value = v })
 read_written at v rest h =
     let t = tag_of v in
     let s = shape v in
@@ -78,7 +79,7 @@ same_bytes l by sized room =
     ∙ ap (λ (x : ℕ). take x l) n
 
 -- the ways to a field
-to_got : (at x : ℕ) (b₁ b₂ b₃ : Bool) {g f : Field} → pick b₁ (Refused (FileEnds at)) (pick b₂ (pick b₃ (Cut x at) (Got g)) (Refused (NotDue at))) ≡ Got f
+to_got : (at x : ℕ) (b₁ b₂ b₃ : Bool) {g f : Field} → pick b₁ (Err (Refused (FileEnds at))) (pick b₂ (pick b₃ (Err (Cut x at)) (Ok g)) (Err (Refused (NotDue at)))) ≡ Ok f
     → (b₁ ≡ false) × (b₂ ≡ true) × (b₃ ≡ false) × (g ≡ f)
 to_got at x true b₂ b₃ e = never (cc)
 to_got at x false false b₃ e = never (cc)
@@ -91,7 +92,7 @@ pub record Stands (s : List ℕ) (at : ℕ) (f : Field) : Type 0 where
   pub inside : at + length (bytes_of f.value) ≤ length s
   pub bytes : take (length (bytes_of f.value)) (drop at s) ≡ bytes_of f.value
 
-pub written_read : (s : List ℕ) (at : ℕ) (f : Field) → AreBytes s → field_at s at ≡ Got f → Stands s at f
+pub written_read : (s : List ℕ) (at : ℕ) (f : Field) → AreBytes s → field_at s at ≡ Ok f → Stands s at f
 unfolding field_in
 written_read s at f by e =
     let l = drop at s in
@@ -115,11 +116,11 @@ pub after : (s bs rest : List ℕ) (at : ℕ) → drop at s ≡ bs ++ rest → d
 after s bs rest at e = sym (drop-drop (length bs) at s) ∙ ap (drop (length bs)) e ∙ drop-append_seam bs rest
 
 -- a field whose bytes stand at a place is read there
-pub field_back : (s : List ℕ) (at : ℕ) (v : Value) (rest : List ℕ) → Fitting v → drop at s ≡ bytes_of v ++ rest → field_at s at ≡ Got (record { at = at; value = v })
+pub field_back : (s : List ℕ) (at : ℕ) (v : Value) (rest : List ℕ) → Fitting v → drop at s ≡ bytes_of v ++ rest → field_at s at ≡ Ok (record { at = at; value = v })
 field_back s at v rest h e = ap (field_in at) e ∙ read_written at v rest h
 
 -- from the place where a field was read on the file is its bytes and those after it
-pub begins : (s : List ℕ) → AreBytes s → (at : ℕ) (f : Field) (v : Value) → field_at s at ≡ Got f → f.value ≡ v → drop at s ≡ bytes_of v ++ drop (at + length (bytes_of v)) s
+pub begins : (s : List ℕ) → AreBytes s → (at : ℕ) (f : Field) (v : Value) → field_at s at ≡ Ok f → f.value ≡ v → drop at s ≡ bytes_of v ++ drop (at + length (bytes_of v)) s
 begins s by at f v e q =
     let t : take (length (bytes_of v)) (drop at s) ≡ bytes_of v = rw q at (written_read s at f by e).bytes in
     sym (take-append-drop (length (bytes_of v)) (drop at s)) ∙ rw (t, drop-drop (length (bytes_of v)) at s)

@@ -1,4 +1,5 @@
 -- What a writer answers and leaves, with too little room and with enough.
+use Rattle.std.specs.Prelude.{Ok, Err}
 use Prim.Native.Nat.{ℕ, ◌<◌, ◌≤◌}
 use native.Mathlib.Omega.{arith}
 use mathlib.Core.Path.{◌≡◌, refl, sym, subst}
@@ -10,14 +11,13 @@ use lib.Dec.{ltb}
 use mathlib.Core.Bool.{Bool, true, false}
 use borrow.Author.Tests.{lt-ltb, le-ltb, ltb-true, ltb-false}
 use Rattle.rules.specs.declared.Refusal.TheVariants.{NoRoom}
-use Rattle.field.specs.declared.Wrote.TheVariants.{Bytes, Refused}
 use Rattle.field.specs.Format.{wrote, laid, wrote_number, wrote_count}
 
 module _ (bs out : List ℕ) {n : ℕ} (h : n ≡ length bs) where
-  pub too_little : length out < n → (Refused (NoRoom n) ≡ wrote bs out) × (out ≡ laid bs out)
+  pub too_little : length out < n → (Err (NoRoom n) ≡ wrote bs out) × (out ≡ laid bs out)
   too_little l = simp (h, lt-ltb (length out) (length bs) (omega arith)) (refl, refl)
 
-  pub enough : {out' : List ℕ} → n ≤ length out → out' ≡ sets out 0 bs → (Bytes n ≡ wrote bs out) × (out' ≡ laid bs out)
+  pub enough : {out' : List ℕ} → n ≤ length out → out' ≡ sets out 0 bs → (Ok n ≡ wrote bs out) × (out' ≡ laid bs out)
   enough l e = simp (h, e, le-ltb (length out) (length bs) (omega arith)) (refl, refl)
 
 -- one row a reason: 0 with the bytes written, 9 with the bytes needed

@@ -1,4 +1,6 @@
 -- RULES 3.2 to 3.4: one table of tags and widths, and from it both what a file says at a place and the bytes of a field.
+use Rattle.std.specs.Prelude.{Ok, Err, Result}
+use Rattle.field.specs.declared.Field.{Field}
 use Rattle.std.specs.Prelude.{ℕ, zero, suc, ◌+◌, ◌*◌, ◌/◌, ◌%◌, ◌<◌, ◌^◌, List, [], ◌∷◌, ◌++◌, Bool, length, get_or, drop, ltb, eqb}
 use Rattle.std.proofs.lemmas.List.Edits.{sets}
 use Rattle.rules.specs.Choose.{pick}
@@ -7,12 +9,8 @@ use Rattle.rules.specs.declared.Refusal.{Refusal}
 use Rattle.rules.specs.declared.Refusal.TheVariants.{FileEnds, NotDue, NoRoom}
 use Rattle.field.specs.declared.Value.{Value}
 use Rattle.field.specs.declared.Value.TheVariants.{Limits, Branch, Sink, Count, Entry, End}
-use Rattle.field.specs.declared.FieldRead.{FieldRead}
-use Rattle.field.specs.declared.FieldRead.TheVariants.{Got, Cut, Refused}
-use Rattle.field.specs.declared.DueRead.{DueRead}
-use Rattle.field.specs.declared.DueRead.TheVariants.{Got as Found, Refused as Missing}
-use Rattle.field.specs.declared.Wrote.{Wrote}
-use Rattle.field.specs.declared.Wrote.TheVariants.{Bytes, Refused as NotWritten}
+use Rattle.field.specs.declared.NoField.{NoField}
+use Rattle.field.specs.declared.NoField.TheVariants.{Cut, Refused}
 
 -- ---- numbers, high byte first: RULES 3.3
 
@@ -98,16 +96,16 @@ abbrev pub value_in : ℕ → List ℕ → Value
 value_in t l = value_of t (numbers_at (widths_of t) l 3)
 
 -- RULES 5.1 a, b, c: what a file says at the place at, l being its bytes from there on
-unfoldable pub field_in : ℕ → List ℕ → FieldRead
+unfoldable pub field_in : ℕ → List ℕ → Result Field NoField
 field_in at l =
-    pick (ltb (length l) 3) (Refused (FileEnds at))
+    pick (ltb (length l) 3) (Err (Refused (FileEnds at)))
     (pick (eqb (number_at 2 l 1) (length_of (get_or l 0 0)))
     (pick (ltb (length l) (3 + length_of (get_or l 0 0)))
-    (Cut (get_or l 0 0) at)
-    (Got (record { at = at; value = value_in (get_or l 0 0) l })))
-    (Refused (NotDue at)))
+    (Err (Cut (get_or l 0 0) at))
+    (Ok (record { at = at; value = value_in (get_or l 0 0) l })))
+    (Err (Refused (NotDue at))))
 
-abbrev pub field_at : List ℕ → ℕ → FieldRead
+abbrev pub field_at : List ℕ → ℕ → Result Field NoField
 field_at s at = field_in at (drop at s)
 
 -- RULES 5.1: 2 comes before a short body, so a body that is cut is 1 only where its tag is due
@@ -115,12 +113,12 @@ abbrev pub cut_at : Bool → ℕ → Refusal
 cut_at due place = pick due (FileEnds place) (NotDue place)
 
 -- what is found where one tag is due
-abbrev pub due_in : ℕ → FieldRead → DueRead
-due_in tag (Got f) = pick (eqb (tag_of f.value) tag) (Found f) (Missing (NotDue f.at))
-due_in tag (Cut t place) = Missing (cut_at (eqb t tag) place)
-due_in tag (Refused r) = Missing r
+abbrev pub due_in : ℕ → Result Field NoField → Result Field Refusal
+due_in tag (Ok f) = pick (eqb (tag_of f.value) tag) (Ok f) (Err (NotDue f.at))
+due_in tag (Err (Cut t place)) = Err (cut_at (eqb t tag) place)
+due_in tag (Err (Refused r)) = Err r
 
-abbrev pub due_at : ℕ → List ℕ → ℕ → DueRead
+abbrev pub due_at : ℕ → List ℕ → ℕ → Result Field Refusal
 due_at tag s at = due_in tag (field_at s at)
 
 -- ---- writing
@@ -130,8 +128,8 @@ abbrev pub bytes_of : Value → List ℕ
 bytes_of v = bytes_of_all (1 ∷ 2 ∷ widths_of (tag_of v)) (tag_of v ∷ length_of (tag_of v) ∷ numbers_of v)
 
 -- what a writer answers and leaves in the lent room: the field at its front, or 9 and all as it was
-abbrev pub wrote : List ℕ → List ℕ → Wrote
-wrote bs out = pick (ltb (length out) (length bs)) (NotWritten (NoRoom (length bs))) (Bytes (length bs))
+abbrev pub wrote : List ℕ → List ℕ → Result ℕ Refusal
+wrote bs out = pick (ltb (length out) (length bs)) (Err (NoRoom (length bs))) (Ok (length bs))
 
 abbrev pub laid : List ℕ → List ℕ → List ℕ
 laid bs out = pick (ltb (length out) (length bs)) out (sets out 0 bs)
@@ -149,29 +147,29 @@ Fitting v = Fit (widths_of (tag_of v)) (numbers_of v)
 -- ---- numbers and places: RULES 4.1, 4.3
 
 -- a cut body is 1 where its tag is due, which the caller says, and 2 where it is not
-abbrev pub read_number : (ℕ → Bool) → FieldRead → ℕ
-read_number due (Got f) = 0
-read_number due (Cut t place) = pick (due t) 1 2
-read_number due (Refused r) = number_of r
+abbrev pub read_number : (ℕ → Bool) → Result Field NoField → ℕ
+read_number due (Ok f) = 0
+read_number due (Err (Cut t place)) = pick (due t) 1 2
+read_number due (Err (Refused r)) = number_of r
 
-abbrev pub read_place : FieldRead → ℕ
-read_place (Got f) = f.at
-read_place (Cut t place) = place
-read_place (Refused r) = place_of r
+abbrev pub read_place : Result Field NoField → ℕ
+read_place (Ok f) = f.at
+read_place (Err (Cut t place)) = place
+read_place (Err (Refused r)) = place_of r
 
-abbrev pub due_number : DueRead → ℕ
-due_number (Found f) = 0
-due_number (Missing r) = number_of r
+abbrev pub due_number : Result Field Refusal → ℕ
+due_number (Ok f) = 0
+due_number (Err r) = number_of r
 
-abbrev pub due_place : DueRead → ℕ
-due_place (Found f) = f.at
-due_place (Missing r) = place_of r
+abbrev pub due_place : Result Field Refusal → ℕ
+due_place (Ok f) = f.at
+due_place (Err r) = place_of r
 
 -- 0 and the bytes written, or 9 and the bytes needed
-abbrev pub wrote_number : Wrote → ℕ
-wrote_number (Bytes n) = 0
-wrote_number (NotWritten r) = number_of r
+abbrev pub wrote_number : Result ℕ Refusal → ℕ
+wrote_number (Ok n) = 0
+wrote_number (Err r) = number_of r
 
-abbrev pub wrote_count : Wrote → ℕ
-wrote_count (Bytes n) = n
-wrote_count (NotWritten r) = place_of r
+abbrev pub wrote_count : Result ℕ Refusal → ℕ
+wrote_count (Ok n) = n
+wrote_count (Err r) = place_of r

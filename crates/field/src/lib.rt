@@ -1,4 +1,4 @@
-// A field of a file: what it holds, and what reading and writing one answers; types, definitions and their laws, and no function.
+// A field of a file: what it holds, and why there is none; types, definitions and their laws, and no function.
 #![tactic(auto)]
 
 use rules::{Entry, Limits, Refusal};
@@ -29,25 +29,10 @@ pub struct Field {
     pub value: Value,
 }
 
-// What reading at a place finds.
+// Why there is no field at a place.
 #[derive(Clone, Copy)]
-pub enum FieldRead {
-    Got(Field),
+pub enum NoField {
     // Tag and length are right and the body is not all there: 1 where the tag is due, 2 where it is not.
     Cut { tag: u8, place: usize },
-    Refused(Refusal),
-}
-
-// What reading finds at a place where one tag is due.
-#[derive(Clone, Copy)]
-pub enum DueRead {
-    Got(Field),
-    Refused(Refusal),
-}
-
-// What writing a field answers.
-#[derive(Clone, Copy)]
-pub enum Wrote {
-    Bytes(usize),
     Refused(Refusal),
 }

@@ -4,31 +4,21 @@
 ghost use Rattle.std.specs.Prelude.{◌≡◌, ◌+◌, ◌<◌, ◌≤◌, length, get_or};
 ghost use Rattle.field.specs.Format.{number_at, length_of, value_in, field_in, field_at, due_in, due_at};
 
-use field::{DueRead, Field, FieldRead, Value};
+use field::{Field, NoField, Value};
 use rules::{Entry, Limits, Refusal};
-
-fn wide(b: u8) -> u16
-    ensures { (result ≡ b) × (result < 256) }
-{
-    b as u16
-}
 
 fn read2(s: &[u8], k: usize) -> u16
     requires { k + 2 ≤ length s.now }
     ensures { result ≡ number_at 2 s.now k }
 {
-    let high = s[k];
-    let low = s[k + 1];
-    wide(high) * 256 + wide(low)
+    u16::from_be_bytes([s[k], s[k + 1]])
 }
 
 fn read4(s: &[u8], k: usize) -> u32
     requires { k + 4 ≤ length s.now }
     ensures { result ≡ number_at 4 s.now k }
 {
-    let high = read2(s, k);
-    let low = read2(s, k + 2);
-    (high as u32) * 65536 + (low as u32)
+    u32::from_be_bytes([s[k], s[k + 1], s[k + 2], s[k + 3]])
 }
 
 // The length that goes with a tag; 65,536, which no two bytes hold, with any other.
@@ -76,33 +66,33 @@ fn value_in(f: &[u8], tag: u8) -> Value
 }
 
 // The field of this tag at the front of the bytes from the place at on. Callers name the tag as a number, so the compiler leaves one arm of each table.
-fn field_of(f: &[u8], at: usize, tag: u8) -> FieldRead
+fn field_of(f: &[u8], at: usize, tag: u8) -> Result<Field, NoField>
     requires { (3 ≤ length f.now) × (get_or f.now 0 0 ≡ tag) }
     ensures { result ≡ field_in at f.now }
 {
     let body = length_of(tag);
     let said = read2(f, 1);
     if said as usize != body {
-        return FieldRead::Refused(Refusal::NotDue(at));
+        return Err(NoField::Refused(Refusal::NotDue(at)));
     }
     if f.len() < 3 + body {
-        return FieldRead::Cut {
+        return Err(NoField::Cut {
             tag: tag,
             place: at,
-        };
+        });
     }
-    FieldRead::Got(Field {
+    Ok(Field {
         at: at,
         value: value_in(f, tag),
     })
 }
 
 // The field at the front of the bytes from the place at on.
-fn field_in(f: &[u8], at: usize) -> FieldRead
+fn field_in(f: &[u8], at: usize) -> Result<Field, NoField>
     ensures { result ≡ field_in at f.now }
 {
     if f.len() < 3 {
-        return FieldRead::Refused(Refusal::FileEnds(at));
+        return Err(NoField::Refused(Refusal::FileEnds(at)));
     }
     let tag = f[0];
     match tag {
@@ -112,45 +102,44 @@ fn field_in(f: &[u8], at: usize) -> FieldRead
         17 => field_of(f, at, 17),
         18 => field_of(f, at, 18),
         127 => field_of(f, at, 127),
-        _ => FieldRead::Refused(Refusal::NotDue(at)),
+        _ => Err(NoField::Refused(Refusal::NotDue(at))),
     }
 }
 
 // The field at a place of a file, or why there is none, in the order of RULES 5.1.
-pub fn read_field(s: &[u8], at: usize) -> FieldRead
+pub fn read_field(s: &[u8], at: usize) -> Result<Field, NoField>
     ensures { result ≡ field_at s.now at }
 {
     if s.len() < at {
-        return FieldRead::Refused(Refusal::FileEnds(at));
+        return Err(NoField::Refused(Refusal::FileEnds(at)));
     }
     field_in(&s[at..], at)
 }
 
 // The field of this tag at the front of the bytes from the place at on, where no other is due.
-fn due_in(f: &[u8], at: usize, tag: u8) -> DueRead
+fn due_in(f: &[u8], at: usize, tag: u8) -> Result<Field, Refusal>
     ensures { result ≡ due_in tag (field_in at f.now) }
 {
     if f.len() < 3 {
-        return DueRead::Refused(Refusal::FileEnds(at));
+        return Err(Refusal::FileEnds(at));
     }
     let there = f[0];
     if there != tag {
-        return DueRead::Refused(Refusal::NotDue(at));
+        return Err(Refusal::NotDue(at));
     }
-    let read = field_of(f, at, tag);
-    match read {
-        FieldRead::Got(field) => DueRead::Got(field),
-        FieldRead::Cut { tag: _, place } => DueRead::Refused(Refusal::FileEnds(place)),
-        FieldRead::Refused(r) => DueRead::Refused(r),
+    match field_of(f, at, tag) {
+        Ok(field) => Ok(field),
+        Err(NoField::Cut { tag: _, place }) => Err(Refusal::FileEnds(place)),
+        Err(NoField::Refused(r)) => Err(r),
     }
 }
 
 // The field at a place of a file where this tag is due, or the refusal: 2 comes before a cut body's 1.
-pub fn read_due(s: &[u8], at: usize, tag: u8) -> DueRead
+pub fn read_due(s: &[u8], at: usize, tag: u8) -> Result<Field, Refusal>
     ensures { result ≡ due_at tag s.now at }
 {
     if s.len() < at {
-        return DueRead::Refused(Refusal::FileEnds(at));
+        return Err(Refusal::FileEnds(at));
     }
     due_in(&s[at..], at, tag)
 }

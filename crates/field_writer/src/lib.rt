@@ -5,32 +5,28 @@ ghost use Rattle.std.specs.Prelude.{◌≡◌, [], ◌∷◌, ◌++◌, ◌+◌,
 ghost use Rattle.std.proofs.lemmas.List.Edits.{sets};
 ghost use Rattle.field.specs.Format.{bytes_in, bytes_of, wrote, laid};
 
-use field::{Value, Wrote};
+use field::Value;
 use rules::{Limits, Refusal};
 
 fn put_head(out: &mut [u8], tag: u8, size: u8)
     requires { 3 ≤ length out.old }
     ensures { out.new ≡ sets out.old 0 (tag ∷ 0 ∷ size ∷ []) }
 {
-    out[0] = tag;
-    out[1] = 0;
-    out[2] = size;
+    out[..3].copy_from_slice(&[tag, 0, size]);
 }
 
 fn put2(out: &mut [u8], k: usize, x: u16)
     requires { k + 2 ≤ length out.old }
     ensures { out.new ≡ sets out.old k (bytes_in 2 x) }
 {
-    out[k] = (x / 256) as u8;
-    out[k + 1] = (x % 256) as u8;
+    out[k..k + 2].copy_from_slice(&x.to_be_bytes());
 }
 
 fn put4(out: &mut [u8], k: usize, x: u32)
     requires { k + 4 ≤ length out.old }
     ensures { out.new ≡ sets out.old k (bytes_in 4 x) }
 {
-    put2(out, k, (x / 65536) as u16);
-    put2(out, k + 2, (x % 65536) as u16);
+    out[k..k + 4].copy_from_slice(&x.to_be_bytes());
 }
 
 // A header, and the two numbers that branches, sinks and entries begin with.
@@ -109,13 +105,13 @@ pub fn size(v: Value) -> usize
 }
 
 // Writes a field at the front of what is lent, or nothing where it does not fit.
-pub fn write_field(out: &mut [u8], v: Value) -> Wrote
+pub fn write_field(out: &mut [u8], v: Value) -> Result<usize, Refusal>
     ensures { (result ≡ wrote (bytes_of v) out.old) × (out.new ≡ laid (bytes_of v) out.old) }
 {
     let n = size(v);
     if out.len() < n {
-        return Wrote::Refused(Refusal::NoRoom(n as u64));
+        return Err(Refusal::NoRoom(n as u64));
     }
     put(out, v);
-    Wrote::Bytes(n)
+    Ok(n)
 }

@@ -10,6 +10,3 @@ use Rattle.field_reader.proofs.read_due.Goals as goal
 
 pub returns-then-s-at : goal.returns-then-s-at
 returns-then-s-at c = ap (due_in c.args.tag) (short _ _ (simp length-drop (omega arith)))
-
-pub returns : goal.returns
-returns c = c.due_in.ensures ∙ ap (λ (l : List ℕ). due_in c.args.tag (field_in c.args.at l)) (part_drop c.args.s.now c.args.at)

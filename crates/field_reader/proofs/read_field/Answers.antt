@@ -8,6 +8,3 @@ use Rattle.field_reader.proofs.read_field.Goals as goal
 
 pub returns-then-s-at : goal.returns-then-s-at
 returns-then-s-at c = short _ _ (simp length-drop (omega arith))
-
-pub returns : goal.returns
-returns c = c.field_in.ensures ∙ ap (field_in c.args.at) (part_drop c.args.s.now c.args.at)
