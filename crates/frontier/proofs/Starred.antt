@@ -1,4 +1,5 @@
 -- The starred nets: the counts by computing the frontier, and the offsets from what legal means on so small a tree.
+use Rattle.std.specs.Prelude.{Ok}
 use Prim.Native.Nat.{ℕ, zero, suc, ◌+◌, ◌-◌, ◌≤◌}
 use mathlib.Core.Path.{◌≡◌, refl, subst}
 use mathlib.Core.List.{List, [], ◌∷◌}
@@ -6,7 +7,6 @@ use lib.ListN.{length, get_or}
 use native.Mathlib.Omega.{arith}
 use native.Mathlib.Decide.{ℕ_discrete}
 use Rattle.rules.specs.declared.Entry.{Entry}
-use Rattle.rules.specs.declared.Judged.TheVariants.{Sound}
 use Rattle.rules.specs.Net.{Net}
 use Rattle.rules.specs.Tree.{hanging, tree}
 use Rattle.rules.specs.Load.{offsets_on, hands_up}
@@ -25,14 +25,14 @@ abbrev answered : State → ℕ
 answered lost = 0
 answered (has k a b) = suc k
 
-counted : {n : Net} {k : ℕ} → judged n ≡ Sound → answered (root (cell_of n.limits) (tree n)) ≡ suc k → Least n k
+counted : {n : Net} {k : ℕ} → judged n ≡ Ok tt → answered (root (cell_of n.limits) (tree n)) ≡ suc k → Least n k
 counted {n} {k} s = go (root (cell_of n.limits) (tree n)) refl
   where
     go : (st : State) → root (cell_of n.limits) (tree n) ≡ st → answered st ≡ suc k → Least n k
     go lost e h = absurd (omega arith)
     go (has m a b) e h = let q : m ≡ k = omega arith in rw q at (least_if_has (sound_says n s) m a b e)
 
-none_legal : {n : Net} → judged n ≡ Sound → answered (root (cell_of n.limits) (tree n)) ≡ 0 → NoneLegal n
+none_legal : {n : Net} → judged n ≡ Ok tt → answered (root (cell_of n.limits) (tree n)) ≡ 0 → NoneLegal n
 none_legal {n} s = go (root (cell_of n.limits) (tree n)) refl
   where
     go : (st : State) → root (cell_of n.limits) (tree n) ≡ st → answered st ≡ 0 → NoneLegal n

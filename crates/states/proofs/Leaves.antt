@@ -1,5 +1,5 @@
--- Laws of one wire: how large its numbers are, and the cases of a merge. Each is a computation or a bound of sums.
-use Prim.Native.Nat.{ℕ, zero, suc, ◌+◌, ◌-◌, ◌*◌, ◌%◌, ◌≤◌, ◌<◌, min, max}
+-- Laws of one wire: how large its numbers are, and a merge. Each is a computation or a bound of sums.
+use Prim.Native.Nat.{ℕ, zero, suc, ◌+◌, ◌-◌, ◌*◌, ◌%◌, ◌≤◌, min}
 use mathlib.Core.Path.{◌≡◌, refl, ap}
 use native.Mathlib.Nat.{div-add-mod', mul-le-mul_left}
 use native.Mathlib.Omega.{arith}
@@ -9,22 +9,13 @@ use Rattle.frontier.proofs.Lower.{ceil_least, req_ok, T-fits}
 use Rattle.states.specs.declared.Cell as code
 use Rattle.states.specs.States.{SmallS, wire_of, model_of, limits_of, CellOk}
 
--- ---- the cases of a merge
+-- ---- merges
 module _ (m a b n x y : ℕ) where
-  pub merge_same : m ≡ n → merge_by (n - m) (m - n) m a b n x y ≡ has m (min a x) (min b y)
-  merge_same h = let p : n - m ≡ 0 = omega arith in let q : m - n ≡ 0 = omega arith in rw (p, q)
-
   pub merge_one : n - m ≡ 1 → merge_by (n - m) (m - n) m a b n x y ≡ has m a (min b x)
   merge_one h = rw h
 
-  pub merge_one' : m - n ≡ 1 → merge_by (n - m) (m - n) m a b n x y ≡ has n x (min y a)
-  merge_one' h = let p : n - m ≡ 0 = omega arith in rw (p, h)
-
-  pub merge_far : m < n → (n - m ≡ 1 → ⊥) → merge_by (n - m) (m - n) m a b n x y ≡ has m a b
-  merge_far l h = let p : n - m ≡ suc (suc ((n - m) - 2)) = omega arith in rw p
-
-  pub merge_far' : n ≤ m → (m ≡ n → ⊥) → (m - n ≡ 1 → ⊥) → merge_by (n - m) (m - n) m a b n x y ≡ has n x y
-  merge_far' l ne h = let p : n - m ≡ 0 = omega arith in let q : m - n ≡ suc (suc ((m - n) - 2)) = omega arith in rw (p, q)
+pub merged : {s s' t t' : State} → s ≡ s' → t ≡ t' → merge s t ≡ merge s' t'
+merged p q = rw (p, q)
 
 merge_by_small : (k d e m a b n x y : ℕ) → SmallS k (has m a b) → SmallS k (has n x y) → SmallS k (merge_by d e m a b n x y)
 merge_by_small k zero zero m a b n x y h g = (h.0, omega arith, omega arith)
@@ -100,11 +91,10 @@ unfolding wire wire_of
 wire_1 τ buf w nd = refl
 wire_1 τ inv w nd = refl
 
-pub T-suc : (τ : Cell) (v r : ℕ) → (r ≡ 0 → ⊥) → T τ v r ≡ max τ.cb (v - r * τ.D)
-T-suc τ v zero e = absurd (e refl)
-T-suc τ v (suc r) e = refl
-
 -- ---- over the code's limits
+pub ok_of : (c : code.Cell) → CellOk c
+ok_of c = record { eq = c.limit_is; pos = c.some_span; small = c.limit_small; kind = c.a_kind }
+
 pub model_is : {c : code.Cell} → CellOk c → model_of c ≡ cell_of (limits_of c)
 model_is {c} ok = let e : c.span ≡ c.limit - c.pin = omega (arith, ok.eq) in ap (λ (d : ℕ). record { kind = kind_of c.repeater; cu = c.limit; cb = c.pin; D = d }) e
 

@@ -1,15 +1,15 @@
 -- A wire whose load fits takes no inverter, or one that hands up its pin: what it is worth at both polarities, without a division.
+use Rattle.std.specs.Prelude.{None}
 use Prim.Native.Nat.{ℕ, suc, ◌+◌, ◌-◌, ◌*◌, ◌≤◌, min, max}
 use mathlib.Core.Path.{◌≡◌, refl, sym, ◌∙◌}
 use native.Mathlib.Omega.{arith}
 use native.Mathlib.Numerals.{add-one}
 use Rattle.frontier.specs.Cell.{inv, Cell}
-use Rattle.frontier.specs.Frontier.{State, lost, has, merge_by, merge, ceil, req, second, cand, via}
+use Rattle.frontier.specs.Frontier.{State, lost, has, merge, ceil, req, second, cand, via}
 use Rattle.frontier.proofs.Lower.{Tidy, ceil_least}
 use Rattle.states.specs.declared.Cell as code
-use Rattle.states.specs.declared.Side.TheVariants.{Lost, Has}
 use Rattle.states.specs.declared.Sides.{Sides}
-use Rattle.states.specs.States.{model_of, st, CellOk, Falls, wire_of, Lifted}
+use Rattle.states.specs.States.{model_of, st, Falls, wire_of, Lifted}
 use Rattle.states.proofs.Leaves.{merge_one}
 
 pub tidy_falls : (τ : Cell) (s : State) → Tidy τ s → Falls s
@@ -75,26 +75,24 @@ module _ (τ : Cell) (eq : τ.cu ≡ τ.cb + τ.D) (pos : 1 ≤ τ.D) where
   short_both w n a b m x y h l g k = rw (via_even w n a b h l, via_odd w m x y g k)
 
 -- ---- what `lift` answers
-module _ {c : code.Cell} (ok : CellOk c) {w : ℕ} where
-  pub lift_none : {s : Sides} → s.plus ≡ Lost → s.minus ≡ Lost → Lifted (model_of c) w (st s.plus) (st s.minus) s
-  lift_none e f = let z = sym (short_none (model_of c) ok.eq ok.pos w) in record { plus = rw (e, f) z; minus = rw (e, f) z }
+module _ (c : code.Cell) (w : ℕ) where
+  pub lift_none : {s : Sides} → s.plus ≡ None → s.minus ≡ None → Lifted (model_of c) w (st s.plus) (st s.minus) s
+  lift_none e f = let z = sym (short_none (model_of c) c.limit_is c.some_span w) in record { plus = rw (e, f) z; minus = rw (e, f) z }
 
-  pub lift_own : {n a b : ℕ} → w + a ≤ c.limit → b ≤ a → Lifted (model_of c) w (has n a b) lost (record { plus = Has n (w + a) (w + b); minus = Has (n + 1) c.pin c.pin })
-  lift_own {n} {a} {b} h l = record {
-    plus = sym (short_own (model_of c) ok.eq ok.pos w n a b h l);
-    minus = rw add-one (sym (short_other (model_of c) ok.eq ok.pos w n a b h l));
+  pub lift_own : {n a b : ℕ} {r : Sides} → w + a ≤ c.limit → b ≤ a
+      → st r.plus ≡ has n (w + a) (w + b) → st r.minus ≡ has (n + 1) c.pin c.pin → Lifted (model_of c) w (has n a b) lost r
+  lift_own {n} {a} {b} h l p m = record {
+    plus = p ∙ sym (short_own (model_of c) c.limit_is c.some_span w n a b h l);
+    minus = rw (m, add-one) (sym (short_other (model_of c) c.limit_is c.some_span w n a b h l));
   }
 
   pub lift_both : {n a b m x y : ℕ} {r : Sides} → w + max a x ≤ c.limit → b ≤ a → y ≤ x
-      → st r.plus ≡ merge_by (m + 1 - n) (n - (m + 1)) n (w + a) (w + b) (m + 1) c.pin c.pin
-      → st r.minus ≡ merge_by (n + 1 - m) (m - (n + 1)) m (w + x) (w + y) (n + 1) c.pin c.pin → Lifted (model_of c) w (has n a b) (has m x y) r
+      → st r.plus ≡ merge (has n (w + a) (w + b)) (has (m + 1) c.pin c.pin)
+      → st r.minus ≡ merge (has m (w + x) (w + y)) (has (n + 1) c.pin c.pin) → Lifted (model_of c) w (has n a b) (has m x y) r
   lift_both {n} {a} {b} {m} {x} {y} h l k i j =
       let f : w + a ≤ c.limit = omega arith in
       let g : w + x ≤ c.limit = omega arith in
       record {
-        plus = i ∙ rw add-one (sym (short_both (model_of c) ok.eq ok.pos w n a b m x y f l g k));
-        minus = j ∙ rw add-one (sym (short_both (model_of c) ok.eq ok.pos w m x y n a b g k f l));
+        plus = i ∙ rw add-one (sym (short_both (model_of c) c.limit_is c.some_span w n a b m x y f l g k));
+        minus = j ∙ rw add-one (sym (short_both (model_of c) c.limit_is c.some_span w m x y n a b g k f l));
       }
-
-pub turned : {τ : Cell} {w : ℕ} {p q : State} {r : Sides} → Lifted τ w p q r → Lifted τ w q p (record { plus = r.minus; minus = r.plus })
-turned l = record { plus = l.minus; minus = l.plus }

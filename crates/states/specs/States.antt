@@ -1,11 +1,10 @@
 -- The code's numbers as the frontier's.
-use Rattle.std.specs.Prelude.{ℕ, ◌+◌, ◌≤◌, ◌≡◌}
+use Rattle.std.specs.Prelude.{ℕ, Option, Some, None, ◌+◌, ◌≤◌, ◌≡◌}
 use Rattle.rules.specs.declared.Limits.{Limits}
 use Rattle.frontier.specs.Cell as model
 use Rattle.frontier.specs.Frontier.{State, lost, has, via, merge}
 use Rattle.states.specs.declared.Cell.{Cell}
-use Rattle.states.specs.declared.Side.{Side}
-use Rattle.states.specs.declared.Side.TheVariants.{Lost, Has}
+use Rattle.states.specs.declared.State.{State as Kept}
 use Rattle.states.specs.declared.Sides.{Sides}
 
 abbrev pub model_of : Cell → model.Cell
@@ -14,9 +13,10 @@ model_of c = record { kind = model.kind_of c.repeater; cu = c.limit; cb = c.pin;
 abbrev pub limits_of : Cell → Limits
 limits_of c = record { limit = c.limit; pin = c.pin; repeater = c.repeater }
 
-abbrev pub st : Side → State
-st Lost = lost
-st (Has m a b) = has m a b
+-- what a node or a wire is worth, which is lost where nothing is kept of it
+abbrev pub st : Option Kept → State
+st None = lost
+st (Some s) = has s.count s.load s.more
 
 -- the limits are in their ranges (RULES 1.9)
 pub record CellOk (c : Cell) : Type 0 where
@@ -30,7 +30,7 @@ abbrev pub SmallS : ℕ → State → Type 0
 SmallS n lost = Unit {0}
 SmallS n (has m a b) = (m ≤ n) × (a ≤ 1000000) × (b ≤ 1000000)
 
-abbrev pub Small : ℕ → Side → Type 0
+abbrev pub Small : ℕ → Option Kept → Type 0
 Small n s = SmallS n (st s)
 
 -- the second load is at most the first
