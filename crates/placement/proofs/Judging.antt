@@ -1,4 +1,5 @@
 -- Two columns judged, 7 before 3, and one entry's range.
+use Rattle.std.specs.Prelude.{Err}
 use Prim.Native.Nat.{ℕ}
 use mathlib.Core.Path.{◌≡◌}
 use mathlib.Core.List.{List}
@@ -7,8 +8,7 @@ use Rattle.rules.specs.Judge.{unless}
 use Rattle.rules.specs.Checked.{placement_fits}
 use Rattle.rules.specs.declared.Entry.{Entry}
 use Rattle.rules.specs.declared.Refusal.TheVariants.{OutOfRange, WrongColumns}
-use Rattle.rules.specs.declared.Judged.{Judged}
-use Rattle.rules.specs.declared.Judged.TheVariants.{Refused}
+use Rattle.rules.specs.Judged.{Judged}
 use Rattle.placement_file.specs.File.{entry_in_range, column_entry, range_judged, ranges_judged, columns_judged}
 
 module _ (vs os : List ℕ) where
@@ -17,7 +17,7 @@ module _ (vs os : List ℕ) where
   unfolding range_judged
   range_is i a t q = rw (← q, t, a)
 
-  pub unequal : placement_fits vs os ≡ false → Refused WrongColumns ≡ columns_judged vs os
+  pub unequal : placement_fits vs os ≡ false → Err WrongColumns ≡ columns_judged vs os
   unfolding columns_judged
   unequal e = rw e
 

@@ -1,4 +1,6 @@
 -- The numbers that a placement file is refused with: each, at its place, exactly where its row says, over the file's bytes.
+use Rattle.std.specs.Prelude.{Ok, Err, Result}
+use Rattle.field.specs.declared.Field.{Field}
 use Prim.Native.Nat.{ℕ, ◌+◌, ◌<◌, ◌≤◌}
 use native.Mathlib.Omega.{arith}
 use mathlib.Core.Path.{◌≡◌, refl, sym, ap, subst, ◌∙◌}
@@ -12,11 +14,9 @@ use Rattle.rules.specs.Judge.{unless, then_judge, judge_each}
 use Rattle.rules.specs.Refusal.{number_of, place_of}
 use Rattle.rules.specs.declared.Refusal.{Refusal}
 use Rattle.rules.specs.declared.Refusal.TheVariants.{OutOfRange, BytesAfterEnd}
-use Rattle.rules.specs.declared.Judged.{Judged}
-use Rattle.rules.specs.declared.Judged.TheVariants.{Sound, Refused as Unsound}
+use Rattle.rules.specs.Judged.{Judged}
 use Rattle.rules.proofs.Tests.{never}
 use Rattle.rules.proofs.Each.{each_sound, each_met, first_refused, refused_first}
-use Rattle.field.specs.declared.DueRead.{DueRead}
 use Rattle.field.specs.Format.{due_at}
 use Rattle.field.proofs.Numbers.{AreBytes}
 use Rattle.field.proofs.ReadNumbers.{Holds, Lacks, short_header, other_tag, wrong_length, short_body, DueRow, found, missing, holds_found, lacks_missing, due_seen}
@@ -54,32 +54,32 @@ pub data FileRow (s : List ℕ) (k p : ℕ) : Type 0 where
 
 pub record Refuses (j : Judged) (k p : ℕ) : Type 0 where
   pub why : Refusal
-  pub is : j ≡ Unsound why
+  pub is : j ≡ Err why
   pub number : number_of why ≡ k
   pub place : place_of why ≡ p
 
 stopped : {j : Judged} {k p : ℕ} (next : Judged) → Refuses j k p → Refuses (then_judge j next) k p
 stopped next r = record { why = r.why; is = ap (λ (x : Judged). then_judge x next) r.is; number = r.number; place = r.place }
 
-went_on : {j next : Judged} {k p : ℕ} → j ≡ Sound → Refuses next k p → Refuses (then_judge j next) k p
+went_on : {j next : Judged} {k p : ℕ} → j ≡ Ok tt → Refuses next k p → Refuses (then_judge j next) k p
 went_on {next = next} e r = record { why = r.why; is = ap (λ (x : Judged). then_judge x next) e ∙ r.is; number = r.number; place = r.place }
 
 -- ---- one field: it is due, and then a test of it
 
-abbrev Field : ℕ → List ℕ → ℕ → Bool → Refusal → Judged
-Field tag s at t x = then_judge (due (due_at tag s at)) (unless t x)
+abbrev field_judged : ℕ → List ℕ → ℕ → Bool → Refusal → Judged
+field_judged tag s at t x = then_judge (due (due_at tag s at)) (unless t x)
 
 -- the three ways out
 data Way (tag : ℕ) (s : List ℕ) (at : ℕ) (t : Bool) (x : Refusal) : Type 0 where
-  lacks : {k : ℕ} → Lacks tag s at k → Refuses (Field tag s at t x) k at → Way tag s at t x
-  fails : Holds tag s at → t ≡ false → Field tag s at t x ≡ Unsound x → Way tag s at t x
-  passes : Holds tag s at → t ≡ true → Field tag s at t x ≡ Sound → Way tag s at t x
+  lacks : {k : ℕ} → Lacks tag s at k → Refuses (field_judged tag s at t x) k at → Way tag s at t x
+  fails : Holds tag s at → t ≡ false → field_judged tag s at t x ≡ Err x → Way tag s at t x
+  passes : Holds tag s at → t ≡ true → field_judged tag s at t x ≡ Ok tt → Way tag s at t x
 
 module _ (s : List ℕ) (by : AreBytes s) (tag at : ℕ) (x : Refusal) where
-  is_lacking : (t : Bool) {k : ℕ} → Lacks tag s at k → Refuses (Field tag s at t x) k at
-  is_lacking t l = let m = lacks_missing tag s by at l in record { why = m.why; is = ap (λ (d : DueRead). then_judge (due d) (unless t x)) m.is; number = m.number; place = m.place }
+  is_lacking : (t : Bool) {k : ℕ} → Lacks tag s at k → Refuses (field_judged tag s at t x) k at
+  is_lacking t l = let m = lacks_missing tag s by at l in record { why = m.why; is = ap (λ (d : Result Field Refusal). then_judge (due d) (unless t x)) m.is; number = m.number; place = m.place }
 
-  is_tested : {t b : Bool} → Holds tag s at → t ≡ b → Field tag s at t x ≡ unless b x
+  is_tested : {t b : Bool} → Holds tag s at → t ≡ b → field_judged tag s at t x ≡ unless b x
   is_tested h e = rw (holds_found tag s by at h, e)
 
   way : (t : Bool) → Way tag s at t x
@@ -97,22 +97,22 @@ placed {j} {k} e r = subst (Refuses j k) (sym e) r
 
 -- a file that is sound, or the row that it is refused by
 pub data Told (s : List ℕ) : Type 0 where
-  sound : file_judged s ≡ Sound → Told s
+  sound : file_judged s ≡ Ok tt → Told s
   row : {k p : ℕ} → FileRow s k p → Told s
 
 module _ (s : List ℕ) (by : AreBytes s) where
-  counted : Counted s → count_judged s ≡ Sound
+  counted : Counted s → count_judged s ≡ Ok tt
   unfolding count_judged
   counted c = is_tested s by 17 0 (OutOfRange 0) c.held (le-leb (owed s) most_entries c.few)
 
   entry_way : (i : ℕ) → Way 18 s (start_of i) (entry_in_range (entry_at s i)) (OutOfRange (start_of i))
   entry_way i = way s by 18 (start_of i) (OutOfRange (start_of i)) (entry_in_range (entry_at s i))
 
-  listed : (i : ℕ) → Listed s i → entry_judged s i ≡ Sound
+  listed : (i : ℕ) → Listed s i → entry_judged s i ≡ Ok tt
   unfolding entry_judged
   listed i l = is_tested s by 18 (start_of i) (OutOfRange (start_of i)) l.held l.ranged
 
-  listed_back : (i : ℕ) → entry_judged s i ≡ Sound → Listed s i
+  listed_back : (i : ℕ) → entry_judged s i ≡ Ok tt → Listed s i
   unfolding entry_judged
   listed_back i e = go (entry_way i)
     where
@@ -142,23 +142,23 @@ module _ (s : List ℕ) (by : AreBytes s) where
   row_refuses (more u h m q z) = placed z (ends u (record { why = BytesAfterEnd (start_of (owed s) + 3); is = is_tested s by 127 (start_of (owed s)) (BytesAfterEnd (start_of (owed s) + 3)) h (lt-leb _ _ m); number = sym q; place = refl }))
 
   -- the other way
-  at_end : Until s (owed s) → judge_each (entry_judged s) (owed s) 0 ≡ Sound → Way 127 s (start_of (owed s)) (leb (length s) (start_of (owed s) + 3)) (BytesAfterEnd (start_of (owed s) + 3)) → Told s
+  at_end : Until s (owed s) → judge_each (entry_judged s) (owed s) 0 ≡ Ok tt → Way 127 s (start_of (owed s)) (leb (length s) (start_of (owed s) + 3)) (BytesAfterEnd (start_of (owed s) + 3)) → Told s
   unfolding file_judged body_judged end_judged
   at_end u e (lacks l r) = row (no_end u l refl)
   at_end u e (fails h t f) = row (more u h (leb-false _ _ t) refl refl)
   at_end u e (passes h t f) = sound (rw (counted u.counted, e) f)
 
-  at_entry : (i : ℕ) {r : Refusal} → i < owed s → Until s i → entry_judged s i ≡ Unsound r → Way 18 s (start_of i) (entry_in_range (entry_at s i)) (OutOfRange (start_of i)) → Told s
+  at_entry : (i : ℕ) {r : Refusal} → i < owed s → Until s i → entry_judged s i ≡ Err r → Way 18 s (start_of i) (entry_in_range (entry_at s i)) (OutOfRange (start_of i)) → Told s
   unfolding entry_judged
   at_entry i h u e (lacks l r) = row (no_entry i h u l refl)
   at_entry i h u e (fails l t f) = row (range i h u l t refl refl)
   at_entry i h u e (passes l t f) = never (cc)
 
   at_body : Counted s → (j : Judged) → judge_each (entry_judged s) (owed s) 0 ≡ j → Told s
-  at_body c Sound e =
+  at_body c (Ok _) e =
       let u : Until s (owed s) = record { counted = c; high = omega arith; each = λ j h. listed_back j (each_met (entry_judged s) (owed s) 0 e j (omega arith) (omega arith)) } in
       at_end u e (way s by 127 (start_of (owed s)) (BytesAfterEnd (start_of (owed s) + 3)) (leb (length s) (start_of (owed s) + 3)))
-  at_body c (Unsound r) e =
+  at_body c (Err r) e =
       let (i, f) = refused_first (entry_judged s) (owed s) 0 e in
       let u : Until s i = record { counted = c; high = omega (arith, f.high); each = λ j h. listed_back j (f.before j (omega arith) h) } in
       at_entry i (omega (arith, f.high)) u f.here (entry_way i)

@@ -1,13 +1,13 @@
 -- The first bytes of a placement file decide it. Its count takes 5 bytes, and at most 4,096 entries of 9 and an end of 3 come after it: inputs that are longer than that
 -- and alike so far say the same.
+use Rattle.std.specs.Prelude.{Ok, Err}
 use Prim.Native.Nat.{ℕ, ◌+◌, ◌*◌, ◌≤◌, ◌<◌}
 use native.Mathlib.Omega.{arith}
 use mathlib.Core.Path.{◌≡◌, refl, ap}
 use mathlib.Core.List.{List}
 use lib.ListN.{length, take}
 use borrow.Author.Tests.{lt-leb}
-use Rattle.rules.specs.declared.Judged.{Judged}
-use Rattle.rules.specs.declared.Judged.TheVariants.{Sound, Refused}
+use Rattle.rules.specs.Judged.{Judged}
 use Rattle.rules.specs.Figures.{most_entries}
 use Rattle.rules.proofs.Each.{each_same}
 use Rattle.field.specs.Format.{due_at}
@@ -59,10 +59,10 @@ module _ {s u : List ℕ} (a : Alike most_file_bytes s u) where
   same_file = by (count_judged u) refl
     where
       by : (j : Judged) → count_judged u ≡ j → placement_of s ≡ placement_of u
-      by Sound e =
+      by (Ok _) e =
           let h : owed u ≤ most_entries = few u e in
           rw (same_count, same_owed, e, same_body (owed u) h, listed_same (entry_at s) (entry_at u) (owed u) 0 (λ j lo hi. same_entry_lem j (omega arith)))
-      by (Refused r) e = rw (same_count, e)
+      by (Err r) e = rw (same_count, e)
 
 pub first_bytes : (s : List ℕ) (n : ℕ) → AreBytes s → most_file_bytes < n → placement_of (take n s) ≡ placement_of s
 first_bytes s n by h = by_first placement_of most_file_bytes (λ u v a. same_file a) s n by h

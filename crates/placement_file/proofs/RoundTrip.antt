@@ -1,5 +1,7 @@
 -- RULES 3.13 for placements. A file that is read is byte for byte the file of its entries: each field stands in it, one where the last one ended.
 -- The file of entries in their ranges is read as those entries: each field comes back from its bytes.
+use Rattle.std.specs.Prelude.{Ok, Err, Result}
+use Rattle.rules.specs.declared.Refusal.{Refusal}
 use Prim.Native.Nat.{ℕ, zero, suc, ◌+◌, ◌-◌, ◌<◌, ◌≤◌}
 use native.Mathlib.Nat.{add-zero}
 use native.Mathlib.Omega.{arith}
@@ -16,18 +18,14 @@ use Rattle.rules.specs.Load.{entries}
 use Rattle.rules.specs.Checked.{placement_fits}
 use Rattle.rules.specs.declared.Entry.{Entry}
 use Rattle.rules.specs.declared.Refusal.TheVariants.{OutOfRange, BytesAfterEnd}
-use Rattle.rules.specs.declared.Judged.{Judged}
-use Rattle.rules.specs.declared.Judged.TheVariants.{Sound, Refused as Unsound}
+use Rattle.rules.specs.Judged.{Judged}
 use Rattle.rules.proofs.Tests.{never, both_met, both_true, then_met, unless_met}
 use Rattle.rules.proofs.Each.{each_met, each_sound}
 use Rattle.field.specs.Format.{tag_of, numbers_of, value_of, field_at, due_in, due_at, bytes_of, Fitting}
 use Rattle.field.specs.declared.Value.{Value}
 use Rattle.field.specs.declared.Value.TheVariants.{Count, Entry as AnEntry, End}
 use Rattle.field.specs.declared.Field.{Field}
-use Rattle.field.specs.declared.FieldRead.{FieldRead}
-use Rattle.field.specs.declared.FieldRead.TheVariants.{Got}
-use Rattle.field.specs.declared.DueRead.{DueRead}
-use Rattle.field.specs.declared.DueRead.TheVariants.{Got as Due, Refused as Missing}
+use Rattle.field.specs.declared.NoField.{NoField}
 use Rattle.field.proofs.Numbers.{AreBytes}
 use Rattle.field.proofs.Due.{found}
 use Rattle.field.proofs.RoundTrip.{shape, after, field_back, begins}
@@ -40,37 +38,37 @@ use Rattle.placement_file.proofs.Listing.{entries_listed, length_entries}
 -- ---- a file that is read
 
 -- where a tag is due and stands, the field is made of its numbers
-met : (tag : ℕ) (r : FieldRead) (d : DueRead) → due_in tag r ≡ d → due d ≡ Sound → (f : Field) × (r ≡ Got f) × (f.value ≡ value_of tag (numbers_in tag d))
-met tag r (Due f) q e =
+met : (tag : ℕ) (r : Result Field NoField) (d : Result Field Refusal) → due_in tag r ≡ d → due d ≡ Ok tt → (f : Field) × (r ≡ Ok f) × (f.value ≡ value_of tag (numbers_in tag d))
+met tag r (Ok f) q e =
     let (got, t) = found tag r q in
     (f, got, (shape f.value).0 ∙ ap (λ (x : ℕ). value_of x (numbers_of f.value)) t ∙ ap (λ (b : Bool). value_of tag (pick b (numbers_of f.value) [])) (sym (eq-eqb (tag_of f.value) tag t)))
-met tag r (Missing x) q e = never (cc)
+met tag r (Err x) q e = never (cc)
 
 -- the bytes from a place on are a field's and those after it
 abbrev Front : List ℕ → ℕ → Value → Type 0
 Front s at v = drop at s ≡ bytes_of v ++ drop (at + length (bytes_of v)) s
 
 module _ (s : List ℕ) (by : AreBytes s) where
-  front : (at tag : ℕ) → due (due_at tag s at) ≡ Sound → Front s at (value_of tag (numbers_in tag (due_at tag s at)))
+  front : (at tag : ℕ) → due (due_at tag s at) ≡ Ok tt → Front s at (value_of tag (numbers_in tag (due_at tag s at)))
   front at tag e =
       let (f, got, same) = met tag (field_at s at) (due_at tag s at) refl e in
       begins s by at f (value_of tag (numbers_in tag (due_at tag s at))) got same
 
-  entry_front : (i : ℕ) → entry_judged s i ≡ Sound → drop (start_of i) s ≡ bytes_of (AnEntry (entry_at s i)) ++ drop (start_of (suc i)) s
+  entry_front : (i : ℕ) → entry_judged s i ≡ Ok tt → drop (start_of i) s ≡ bytes_of (AnEntry (entry_at s i)) ++ drop (start_of (suc i)) s
   unfolding entry_judged entry_at
   entry_front i e =
       let (d, _) = then_met (due (due_at 18 s (start_of i))) (unless (entry_in_range (entry_at s i)) (OutOfRange (start_of i))) e in
       let n : start_of i + 9 ≡ start_of (suc i) = omega arith in
       front (start_of i) 18 d ∙ ap (λ (k : ℕ). bytes_of (AnEntry (entry_at s i)) ++ drop k s) n
 
-  end_front : (at : ℕ) → end_judged s at ≡ Sound → drop at s ≡ bytes_of End
+  end_front : (at : ℕ) → end_judged s at ≡ Ok tt → drop at s ≡ bytes_of End
   unfolding end_judged
   end_front at e =
       let (d, u) = then_met (due (due_at 127 s at)) (unless (leb (length s) (at + 3)) (BytesAfterEnd (at + 3))) e in
       let n : length s ≤ at + 3 = leb-true (length s) (at + 3) (unless_met _ (BytesAfterEnd (at + 3)) u) in
       front at 127 d ∙ ap (λ (r : List ℕ). bytes_of End ++ r) (drop_of_length-le s n)
 
-  body_front : (k i : ℕ) → judge_each (entry_judged s) k i ≡ Sound → end_judged s (start_of (i + k)) ≡ Sound → drop (start_of i) s ≡ entries_bytes (listed (entry_at s) k i)
+  body_front : (k i : ℕ) → judge_each (entry_judged s) k i ≡ Ok tt → end_judged s (start_of (i + k)) ≡ Ok tt → drop (start_of i) s ≡ entries_bytes (listed (entry_at s) k i)
   unfolding judge_each listed entries_bytes
   body_front zero i each last = end_front (start_of i) (rw add-zero at last)
   body_front (suc k) i each last =
@@ -88,7 +86,7 @@ unfolding listed
 listed_ranged g zero i h = tt
 listed_ranged g (suc k) i h = (h i (omega arith) (omega arith), listed_ranged g k (suc i) (λ j lo hi. h j (omega arith) (omega arith)))
 
-entry_ranged : (s : List ℕ) (i : ℕ) → entry_judged s i ≡ Sound → entry_in_range (entry_at s i) ≡ true
+entry_ranged : (s : List ℕ) (i : ℕ) → entry_judged s i ≡ Ok tt → entry_in_range (entry_at s i) ≡ true
 unfolding entry_judged
 entry_ranged s i e =
     let (_, u) = then_met (due (due_at 18 s (start_of i))) (unless (entry_in_range (entry_at s i)) (OutOfRange (start_of i))) e in
@@ -99,9 +97,9 @@ pub record Placed (es : List Entry) : Type 0 where
   pub few : length es ≤ most_entries
   pub ranged : Ranged es
 
-told : (j : Judged) (es es' : List Entry) → outcome j es ≡ placement es' → (j ≡ Sound) × (es ≡ es')
-told Sound es es' e = (refl, cc)
-told (Unsound r) es es' e = never (cc)
+told : (j : Judged) (es es' : List Entry) → outcome j es ≡ placement es' → (j ≡ Ok tt) × (es ≡ es')
+told (Ok _) es es' e = (refl, cc)
+told (Err r) es es' e = never (cc)
 
 -- a file that is read has the bytes of its entries
 pub file_bytes : (s : List ℕ) (es : List Entry) → AreBytes s → placement_of s ≡ placement es → Placed es × (s ≡ placement_bytes es)
@@ -137,7 +135,7 @@ columns_back es p =
     let n : length vs ≡ length es = length-map es wire in
     let m : length os ≡ length es = length-map es offset in
     let level : placement_fits vs os ≡ true = both_true (eq-eqb (length os) (length vs) (omega arith)) (le-leb (length vs) most_entries (omega (arith, p.few))) in
-    let each : ranges_judged vs os ≡ Sound = each_sound (range_judged vs os) (length vs) 0 (λ j lo hi. rw (at_each es p.ranged j (omega arith))) in
+    let each : ranges_judged vs os ≡ Ok tt = each_sound (range_judged vs os) (length vs) 0 (λ j lo hi. rw (at_each es p.ranged j (omega arith))) in
     rw (level, each, entries_back es)
 
 -- columns of one length are those of their entries
@@ -174,7 +172,7 @@ entry_fits e h =
 
 module _ (s : List ℕ) where
   body_back : (es : List Entry) (i : ℕ) → Ranged es → drop (start_of i) s ≡ entries_bytes es
-      → (judge_each (entry_judged s) (length es) i ≡ Sound) × (end_judged s (start_of (i + length es)) ≡ Sound) × (listed (entry_at s) (length es) i ≡ es)
+      → (judge_each (entry_judged s) (length es) i ≡ Ok tt) × (end_judged s (start_of (i + length es)) ≡ Ok tt) × (listed (entry_at s) (length es) i ≡ es)
   unfolding judge_each listed entries_bytes entry_judged entry_at end_judged
   body_back [] i h e =
       let got = field_back s (start_of i) End [] tt e in
@@ -185,9 +183,9 @@ module _ (s : List ℕ) where
       let got = field_back s (start_of i) (AnEntry x) (entries_bytes es) (entry_fits x h.0) e in
       let next : start_of i + 9 ≡ start_of (suc i) = omega arith in
       let (each, last, others) = body_back es (suc i) h.1 (ap (λ (k : ℕ). drop k s) (sym next) ∙ after s (bytes_of (AnEntry x)) (entries_bytes es) (start_of i) e) in
-      let here : entry_at s i ≡ x = ap (λ (r : FieldRead). entry_in (due_in 18 r)) got in
+      let here : entry_at s i ≡ x = ap (λ (r : Result Field NoField). entry_in (due_in 18 r)) got in
       let n : suc i + length es ≡ i + suc (length es) = omega arith in
-      let sound : entry_judged s i ≡ Sound = rw (got, h.0) in
+      let sound : entry_judged s i ≡ Ok tt = rw (got, h.0) in
       (rw sound each, rw n at last, ap (λ (r : List Entry). entry_at s i ∷ r) others ∙ ap (λ (y : Entry). y ∷ es) here)
 
 -- the bytes of entries that a file can hold are read as those entries
@@ -196,9 +194,9 @@ unfolding placement_of file_judged body_judged count_judged owed placement_bytes
 bytes_file es p =
     let s = placement_bytes es in
     let got = field_back s 0 (Count (length es)) (entries_bytes es) (omega (arith, p.few), tt) refl in
-    let n : owed s ≡ length es = ap (λ (r : FieldRead). count_in (due_in 17 r)) got in
+    let n : owed s ≡ length es = ap (λ (r : Result Field NoField). count_in (due_in 17 r)) got in
     let (each, last, all) = body_back s es 0 p.ranged (after s (bytes_of (Count (length es))) (entries_bytes es) 0 refl) in
     let few : leb (length es) most_entries ≡ true = le-leb (length es) most_entries p.few in
     let z : 0 + length es ≡ length es = omega arith in
-    let sound : body_judged s (length es) ≡ Sound = rw each (rw z at last) in
+    let sound : body_judged s (length es) ≡ Ok tt = rw each (rw z at last) in
     rw (n, got, few, sound, all)

@@ -1,48 +1,48 @@
 -- RULES 3.7, 3.9, 6.8, 6.9: what a placement file says, what two columns say, and what the reader and the writer answer and leave.
-use Rattle.std.specs.Prelude.{ℕ, ◌+◌, ◌*◌, min, ◌≡◌, List, [], ◌∷◌, ◌++◌, map, Bool, length, get_or, ltb, leb, eqb}
+use Rattle.std.specs.Prelude.{ℕ, ◌+◌, ◌*◌, min, ◌≡◌, List, [], ◌∷◌, ◌++◌, map, Bool, length, get_or, ltb, leb, eqb, Ok, Err, Result}
 use Rattle.std.proofs.lemmas.List.Edits.{sets}
 use Rattle.rules.specs.Figures.{most_nodes, most_wire, most_entries}
 use Rattle.rules.specs.Choose.{pick, both}
 use Rattle.rules.specs.Refusal.{number_of, place_of}
 use Rattle.rules.specs.Judge.{unless, then_judge, judge_each}
 use Rattle.rules.specs.Load.{entries}
+pub use Rattle.rules.specs.Load.{column_entry}
 use Rattle.rules.specs.Checked.{placement_fits}
 use Rattle.rules.specs.declared.Entry.{Entry}
 use Rattle.rules.specs.declared.Refusal.{Refusal}
 use Rattle.rules.specs.declared.Refusal.TheVariants.{OutOfRange, BytesAfterEnd, WrongColumns, NoRoom}
-use Rattle.rules.specs.declared.Judged.{Judged}
-use Rattle.rules.specs.declared.Judged.TheVariants.{Sound, Refused as Unsound}
+use Rattle.rules.specs.Judged.{Judged}
 use Rattle.field.specs.Listed.{listed}
+use Rattle.field.specs.declared.Field.{Field}
 use Rattle.field.specs.Format.{tag_of, numbers_of, due_at, bytes_of, wrote, laid}
 use Rattle.field.specs.declared.Value.TheVariants.{Count, Entry as AnEntry, End}
-use Rattle.field.specs.declared.DueRead.{DueRead}
-use Rattle.field.specs.declared.DueRead.TheVariants.{Got, Refused as Missing}
-use Rattle.field.specs.declared.Wrote.{Wrote}
-use Rattle.field.specs.declared.Wrote.TheVariants.{Refused as NotWritten}
-use Rattle.placement_file.specs.declared.PlacementRead.{PlacementRead}
-use Rattle.placement_file.specs.declared.PlacementRead.TheVariants.{Read, Refused}
 
 -- ---- one field
 
 -- a field was due, and was found or not
-abbrev pub due : DueRead → Judged
-due (Got f) = Sound
-due (Missing r) = Unsound r
+abbrev pub due : Result Field Refusal → Judged
+due (Ok f) = Ok tt
+due (Err r) = Err r
 
 -- the numbers in a field of this tag; none where another stands
-abbrev pub numbers_in : ℕ → DueRead → List ℕ
-numbers_in tag (Got f) = pick (eqb (tag_of f.value) tag) (numbers_of f.value) []
-numbers_in tag (Missing r) = []
+abbrev pub numbers_in : ℕ → Result Field Refusal → List ℕ
+numbers_in tag (Ok f) = pick (eqb (tag_of f.value) tag) (numbers_of f.value) []
+numbers_in tag (Err r) = []
 
-abbrev pub count_in : DueRead → ℕ
+abbrev pub count_in : Result Field Refusal → ℕ
 count_in d = get_or (numbers_in 17 d) 0 0
 
-abbrev pub entry_in : DueRead → Entry
+abbrev pub entry_in : Result Field Refusal → Entry
 entry_in d = record { wire = get_or (numbers_in 18 d) 0 0; offset = get_or (numbers_in 18 d) 1 0 }
 
 -- RULES 3.9: the ranges of an entry in a file
 abbrev pub entry_in_range : Entry → Bool
 entry_in_range e = both (ltb 0 e.wire) (both (leb e.wire most_nodes) (leb e.offset most_wire))
+
+-- a value, where the judgement of it refuses nothing
+abbrev pub allowed : {A : Type 0} → Judged → A → Result A Refusal
+allowed (Ok _) x = Ok x
+allowed (Err r) x = Err r
 
 -- ---- a file: RULES 3.7, the count, as many entries as it says, the end
 
@@ -88,15 +88,11 @@ pub data Outcome : Type 0 where
   refused : Refusal → Outcome
 
 abbrev pub outcome : Judged → List Entry → Outcome
-outcome Sound es = placement es
-outcome (Unsound r) es = refused r
+outcome (Ok _) es = placement es
+outcome (Err r) es = refused r
 
 unfoldable pub placement_of : List ℕ → Outcome
 placement_of s = outcome (file_judged s) (listed (entry_at s) (owed s) 0)
-
--- entry i of the columns
-abbrev pub column_entry : List ℕ → List ℕ → ℕ → Entry
-column_entry vs os i = record { wire = get_or vs i 0; offset = get_or os i 0 }
 
 -- RULES 5.9: 3 of an entry, at its number
 unfoldable pub range_judged : List ℕ → List ℕ → ℕ → Judged
@@ -114,28 +110,28 @@ columns_of vs os = outcome (columns_judged vs os) (entries vs os)
 -- ---- the reader
 
 -- RULES 6.2: the shorter column is the room; 9 with the number of entries
-abbrev pub answer : ℕ → Outcome → PlacementRead
-answer room (refused r) = Refused r
-answer room (placement es) = pick (ltb room (length es)) (Refused (NoRoom (length es))) (Read (length es))
+abbrev pub answer : ℕ → Outcome → Result ℕ Refusal
+answer room (refused r) = Err r
+answer room (placement es) = pick (ltb room (length es)) (Err (NoRoom (length es))) (Ok (length es))
 
 -- RULES 6.3, 4.2: success writes as many places as there are entries, and a refusal none
 abbrev pub filled : ℕ → Outcome → (Entry → ℕ) → List ℕ → List ℕ
 filled room (refused r) f col = col
 filled room (placement es) f col = pick (ltb room (length es)) col (sets col 0 (map f es))
 
-pub record ReadAs (o : Outcome) (vs os vs' os' : List ℕ) (r : PlacementRead) : Type 0 where
+pub record ReadAs (o : Outcome) (vs os vs' os' : List ℕ) (r : Result ℕ Refusal) : Type 0 where
   pub answered : r ≡ answer (min (length vs) (length os)) o
   pub wires : vs' ≡ filled (min (length vs) (length os)) o wire vs
   pub offsets : os' ≡ filled (min (length vs) (length os)) o offset os
 
 -- 0 and the entries read, or a refusal's number and place
-abbrev pub read_number : PlacementRead → ℕ
-read_number (Read n) = 0
-read_number (Refused r) = number_of r
+abbrev pub read_number : Result ℕ Refusal → ℕ
+read_number (Ok n) = 0
+read_number (Err r) = number_of r
 
-abbrev pub read_count : PlacementRead → ℕ
-read_count (Read n) = n
-read_count (Refused r) = place_of r
+abbrev pub read_count : Result ℕ Refusal → ℕ
+read_count (Ok n) = n
+read_count (Err r) = place_of r
 
 -- ---- the writer
 
@@ -147,8 +143,8 @@ entries_bytes (e ∷ es) = bytes_of (AnEntry e) ++ entries_bytes es
 unfoldable pub placement_bytes : List Entry → List ℕ
 placement_bytes es = bytes_of (Count (length es)) ++ entries_bytes es
 
-abbrev pub written : Outcome → List ℕ → Wrote
-written (refused r) out = NotWritten r
+abbrev pub written : Outcome → List ℕ → Result ℕ Refusal
+written (refused r) out = Err r
 written (placement es) out = wrote (placement_bytes es) out
 
 -- the bytes and no others, and a refusal none
@@ -156,6 +152,6 @@ abbrev pub left : Outcome → List ℕ → List ℕ
 left (refused r) out = out
 left (placement es) out = laid (placement_bytes es) out
 
-pub record WroteAs (o : Outcome) (out out' : List ℕ) (r : Wrote) : Type 0 where
+pub record WroteAs (o : Outcome) (out out' : List ℕ) (r : Result ℕ Refusal) : Type 0 where
   pub answered : r ≡ written o out
   pub bytes : out' ≡ left o out
