@@ -1,4 +1,3 @@
 -- What the proofs of several functions use.
-pub mod Standing
 pub mod Walk
 pub mod Begun

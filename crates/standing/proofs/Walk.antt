@@ -1,14 +1,14 @@
 -- The walk of 10 over the entries, a step each: what is left decides the answer.
+use Rattle.std.specs.Prelude.{Ok, Err}
 use Prim.Native.Nat.{ℕ, zero, suc, ◌≤◌, ◌<◌}
 use mathlib.Core.Path.{◌≡◌, refl, sym, ap, ◌∙◌}
 use mathlib.Core.Bool.{Bool, true, false}
 use mathlib.Core.List.{List, [], ◌∷◌}
 use native.Mathlib.Omega.{arith}
 use lib.ListN.{length, get_or, drop, drop_of_length-le}
-use borrow.Author.Tests.{le-leb, lt-leb, eq-eqb, ne_eqb}
+use borrow.Author.Tests.{le-leb, eq-eqb}
 use Rattle.rules.specs.declared.Entry.{Entry}
-use Rattle.rules.specs.declared.Judged.TheVariants.{Sound, Refused}
-use Rattle.rules.specs.declared.Refusal.TheVariants.{WrongColumns, Misplaced}
+use Rattle.rules.specs.declared.Refusal.TheVariants.{Misplaced}
 use Rattle.rules.specs.Figures.{most_entries}
 use Rattle.rules.specs.Choose.{both}
 use Rattle.rules.specs.Net.{Net}
@@ -43,20 +43,14 @@ module _ (n : Net) (d : Entry) (vs os : List ℕ) (k : ℕ) (e : length os ≡ l
   placed_next z h q t = placed_at h ∙ rw (sym q ∙ t)
 
   pub placed_stop : (z : Bool) → k < length vs → z ≡ both (on_its_wire n (at (get_or vs k 0) (get_or os k 0))) (not_lower d (at (get_or vs k 0) (get_or os k 0))) → z ≡ false
-      → placed_from n d k (drop k (entries vs os)) ≡ Refused (Misplaced k)
+      → placed_from n d k (drop k (entries vs os)) ≡ Err (Misplaced k)
   placed_stop z h q t = placed_at h ∙ rw (sym q ∙ t)
 
-  pub placed_end : length vs ≤ k → placed_from n d k (drop k (entries vs os)) ≡ Sound
+  pub placed_end : length vs ≤ k → placed_from n d k (drop k (entries vs os)) ≡ Ok tt
   unfolding placed_from
   placed_end h = let l : length (entries vs os) ≤ k = omega (arith, entries_length vs os e) in rw (drop_of_length-le (entries vs os) l)
 
 -- 7, and then 10
 module _ (n : Net) (vs os : List ℕ) where
-  pub stood_uneven : (length os ≡ length vs → ⊥) → stood n vs os ≡ Refused WrongColumns
-  stood_uneven e = rw (ne_eqb (length os) (length vs) e)
-
-  pub stood_many : length os ≡ length vs → most_entries < length vs → stood n vs os ≡ Refused WrongColumns
-  stood_many e l = rw (eq-eqb (length os) (length vs) e, lt-leb (length vs) most_entries l)
-
   pub stood_fits : length os ≡ length vs → length vs ≤ most_entries → stood n vs os ≡ placed_from n start 0 (entries vs os)
   stood_fits e l = rw (eq-eqb (length os) (length vs) e, le-leb (length vs) most_entries l)

@@ -1,6 +1,6 @@
 -- The first part of what is judged of a placement on a net: 7 for its columns, then 10 (RULES 5.6).
 use Rattle.std.specs.Prelude.{ℕ, ◌≡◌, List, length}
-use Rattle.rules.specs.declared.Judged.{Judged}
+use Rattle.rules.specs.Judged.{Judged}
 use Rattle.rules.specs.declared.Refusal.TheVariants.{WrongColumns}
 use Rattle.rules.specs.Net.{Net, places}
 use Rattle.rules.specs.Load.{entries}

@@ -3,11 +3,11 @@
 
 ghost use Rattle.std.specs.Prelude.{◌≡◌};
 ghost use Rattle.rules.specs.Choose.{both};
-ghost use Rattle.rules.specs.Net.{Net, net_at};
+ghost use Rattle.rules.specs.Net.{Net, net_of};
 ghost use Rattle.rules.specs.Checked.{on_its_wire, not_lower};
 ghost use Rattle.standing.specs.Stands.{stood, begun, HasWires};
 
-use rules::{Entry, Judged, Limits, Refusal};
+use rules::{Entry, LentNet, LentPlacement, Refusal};
 
 // The most entries that columns may have.
 const ENTRIES: usize = 4096;
@@ -29,56 +29,32 @@ fn entry_stands(wire: &[u32], before: Entry, entry: Entry) -> bool
     if before.wire < entry.wire {
         return true;
     }
-    if before.wire != entry.wire {
-        return false;
-    }
-    before.offset <= entry.offset
+    (before.wire == entry.wire) & (before.offset <= entry.offset)
 }
 
 // 7 and 10: the columns of a placement fit, and each entry stands on a wire and not before the one before it.
-pub fn entries_stand(wire: &[u32], wires: &[u16], offsets: &[u32]) -> Judged
-    ensures { (n : Net) → HasWires n wire.now → result ≡ stood n wires.now offsets.now }
+pub fn entries_stand(wire: &[u32], placement: &LentPlacement) -> Result<(), Refusal>
+    ensures { (n : Net) → HasWires n wire.now → result ≡ stood n placement.now.wires.now placement.now.offsets.now }
 {
-    if offsets.len() != wires.len() {
-        return Judged::Refused(Refusal::WrongColumns);
-    }
-    if ENTRIES < wires.len() {
-        return Judged::Refused(Refusal::WrongColumns);
+    let count = placement.wires.len();
+    if placement.offsets.len() != count || ENTRIES < count {
+        return Err(Refusal::WrongColumns);
     }
     let mut before = Entry { wire: 0, offset: 0 };
-    let mut k = 0;
-    while k < wires.len() {
-        let on = wires[k];
-        let offset = offsets[k];
-        let entry = Entry {
-            wire: on,
-            offset: offset,
-        };
+    for k in 0..count {
+        let entry = placement.entry(k);
         if !entry_stands(wire, before, entry) {
-            return Judged::Refused(Refusal::Misplaced(k));
+            return Err(Refusal::Misplaced(k));
         }
         before = entry;
-        k += 1;
     }
-    Judged::Sound
+    Ok(())
 }
 
 // What every call on a placement begins with: the net's refusals, then 7 and 10.
-pub fn judge(
-    limits: Limits,
-    parent: &[u16],
-    wire: &[u32],
-    kind: &[u8],
-    pin: &[u32],
-    polarity: &[u8],
-    wires: &[u16],
-    offsets: &[u32],
-) -> Judged
-    ensures { result ≡ begun (net_at limits parent.entry wire.entry kind.entry pin.entry polarity.entry) wires.now offsets.now }
+pub fn judge(net: &LentNet, placement: &LentPlacement) -> Result<(), Refusal>
+    ensures { result ≡ begun (net_of net.now) placement.now.wires.now placement.now.offsets.now }
 {
-    let judged = net::judge(limits, parent, wire, kind, pin, polarity);
-    if let Judged::Refused(_) = judged {
-        return judged;
-    }
-    entries_stand(wire, wires, offsets)
+    net::judge(net)?;
+    entries_stand(net.wire, placement)
 }
