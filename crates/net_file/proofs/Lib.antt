@@ -1,3 +1,4 @@
+pub mod Said
 pub mod Nodes
 pub mod FieldsJudged
 pub mod WasRead

@@ -1,33 +1,73 @@
-// What a net file says, and what its reader and its writer answer: types, definitions and their laws, and no function.
+// What a net file says, and the columns into which its reader takes the nodes: types, definitions and their laws.
 #![tactic(auto)]
 
-use rules::{Limits, Node, Refusal};
+ghost use Rattle.std.specs.Prelude.{◌≡◌, [], ◌∷◌, ◌<◌, ◌≤◌};
+ghost use Rattle.rules.specs.Net.{net_of as net_behind, unlimited};
+ghost use Rattle.net_file.specs.NetFile.{kept_in, blank, first_places, laid_over, columns_of};
 
-// What stands at the front of a net file.
+use rules::{LentNet, Limits, Node};
+
+// A file that was read: its limits, and the places that its nodes and the source take.
 #[derive(Clone, Copy)]
-pub enum Front {
-    Limits(Limits),
-    Refused(Refusal),
+pub struct NetRead {
+    pub limits: Limits,
+    pub places: usize,
 }
 
-// What stands at a later place: a node, with the place after it, the end, or neither.
+// A node that was taken from a file, with the place of the field after it.
 #[derive(Clone, Copy)]
-pub enum Taken {
-    Node(Node, usize),
-    End,
-    Refused(Refusal),
+pub struct Taken {
+    pub node: Node,
+    pub next: usize,
 }
 
-// What the reader answers.
-#[derive(Clone, Copy)]
-pub enum NetRead {
-    Read { limits: Limits, places: usize },
-    Refused(Refusal),
+// Columns of the reader's own, with a place for each node that a net may have.
+pub struct Columns {
+    pub parent: [u16; 1025],
+    pub wire: [u32; 1025],
+    pub kind: [u8; 1025],
+    pub pin: [u32; 1025],
+    pub polarity: [u8; 1025],
 }
 
-// What the writer answers.
-#[derive(Clone, Copy)]
-pub enum NetWrote {
-    Written(usize),
-    Refused(Refusal),
+impl Columns {
+    // Columns that hold 0 in each place.
+    pub fn blank() -> Columns
+        ensures { kept_in result ≡ blank }
+    {
+        Columns {
+            parent: [0; 1025],
+            wire: [0; 1025],
+            kind: [0; 1025],
+            pin: [0; 1025],
+            polarity: [0; 1025],
+        }
+    }
+
+    // Puts node i into its place of each column.
+    pub fn put(&mut self, i: usize, node: Node)
+        requires { i < 1025 }
+        ensures { kept_in self.new ≡ laid_over (kept_in self.old) i (columns_of unlimited (node ∷ [])) }
+    {
+        self.parent[i] = node.parent;
+        self.wire[i] = node.wire;
+        self.kind[i] = node.kind;
+        self.pin[i] = node.pin;
+        self.polarity[i] = node.polarity;
+    }
+
+    // The first places, lent as a net with these limits.
+    pub fn lent(&self, limits: Limits, places: usize) -> LentNet<'_>
+        requires { places ≤ 1025 }
+        ensures { net_behind result ≡ first_places places limits (kept_in self.now) }
+    {
+        LentNet {
+            limits,
+            parent: &self.parent[..places],
+            wire: &self.wire[..places],
+            kind: &self.kind[..places],
+            pin: &self.pin[..places],
+            polarity: &self.polarity[..places],
+        }
+    }
 }
