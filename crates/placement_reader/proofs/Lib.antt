@@ -1,4 +1,3 @@
-pub mod Taking
 pub mod Judging
 pub mod Filling
 pub mod Answers

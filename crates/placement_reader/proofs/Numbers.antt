@@ -1,4 +1,6 @@
 -- The reader's numbers: for an answer that meets the contract each is given, with its count or place, exactly where its row says.
+use Rattle.std.specs.Prelude.{Result}
+use Rattle.rules.specs.declared.Refusal.{Refusal}
 use Prim.Native.Nat.{ℕ, ◌<◌, ◌≤◌, min}
 use mathlib.Core.Path.{◌≡◌, refl, sym, ap, subst, ◌∙◌}
 use mathlib.Core.Logic.{◌↔◌}
@@ -10,7 +12,6 @@ use borrow.Author.Tests.{lt-ltb, le-ltb, ltb-true, ltb-false}
 use Rattle.rules.specs.declared.Entry.{Entry}
 use Rattle.field.specs.Listed.{listed}
 use Rattle.field.proofs.Numbers.{AreBytes}
-use Rattle.placement_file.specs.declared.PlacementRead.{PlacementRead}
 use Rattle.placement_file.specs.File.{placement, owed, entry_at, placement_of, placement_bytes, answer, ReadAs, read_number, read_count}
 use Rattle.placement_file.proofs.RoundTrip.{Placed, file_bytes, bytes_file}
 use Rattle.placement_file.proofs.FileNumbers.{FileRow, Told, sound, row, row_refuses, told}
@@ -49,7 +50,7 @@ module _ (s : List ℕ) (by : AreBytes s) (room : ℕ) where
       (given, λ a. let (x, y, r) = some (told s by) in let g = given r in subst (λ (z : ℕ). ReadRow s room z p) (sym g.0 ∙ a.0) (subst (ReadRow s room x) (sym g.1 ∙ a.1) r))
 
 -- the shorter of the two columns is the room
-pub read_placement_numbers : (s vs os : List ℕ) {vs' os' : List ℕ} {r : PlacementRead} → AreBytes s → ReadAs (placement_of s) vs os vs' os' r
+pub read_placement_numbers : (s vs os : List ℕ) {vs' os' : List ℕ} {r : Result ℕ Refusal} → AreBytes s → ReadAs (placement_of s) vs os vs' os' r
     → (k p : ℕ) → ReadRow s (min (length vs) (length os)) k p ↔ ((read_number r ≡ k) × (read_count r ≡ p))
 read_placement_numbers s vs os by a k p =
-    subst (λ (x : PlacementRead). ReadRow s (min (length vs) (length os)) k p ↔ ((read_number x ≡ k) × (read_count x ≡ p))) (sym a.answered) (exactly s by (min (length vs) (length os)) k p)
+    subst (λ (x : Result ℕ Refusal). ReadRow s (min (length vs) (length os)) k p ↔ ((read_number x ≡ k) × (read_count x ≡ p))) (sym a.answered) (exactly s by (min (length vs) (length os)) k p)
