@@ -10,31 +10,29 @@ ghost use Rattle.frontier.specs.Spaced.{steps};
 pub fn room(a: usize, b: usize) -> u64
     ensures { result ≡ min (min a b) most_entries }
 {
-    states::least(states::least(a as u64, b as u64), 4096)
+    a.min(b).min(4096) as u64
 }
 
-// r entries of wire i from `at` on, the first at the offset o and each a span further, up to the wire's size w.
-pub fn write_spaced(
-    wires: &mut [u16],
-    offsets: &mut [u32],
-    at: usize,
-    i: u16,
-    w: u64,
-    o: u64,
-    span: u64,
-    r: usize,
-)
-    requires r_in_bounds { (at + r ≤ length wires.old) × (at + r ≤ length offsets.old) }
-    requires o_le_w { (o ≤ w) × (w ≤ 10000000) × (span ≤ 1000000) }
-    ensures { (wires.new ≡ sets wires.old at (replicate r i)) × (offsets.new ≡ sets offsets.old at (steps w span o r)) }
+// Entries of one wire a span apart: the lowest at an offset, and none past the wire's size.
+#[derive(Clone, Copy)]
+pub struct Run {
+    pub wire: u16,
+    pub size: u64,
+    pub lowest: u64,
+    pub span: u64,
+    pub count: usize,
+}
+
+// The entries of a run, from the place `at` on.
+pub fn write_spaced(wires: &mut [u16], offsets: &mut [u32], at: usize, run: Run)
+    requires in_bounds { (at + run.count ≤ length wires.old) × (at + run.count ≤ length offsets.old) }
+    requires in_wire { (run.lowest ≤ run.size) × (run.size ≤ 10000000) × (run.span ≤ 1000000) }
+    ensures { (wires.new ≡ sets wires.old at (replicate run.count run.wire)) × (offsets.new ≡ sets offsets.old at (steps run.size run.span run.lowest run.count)) }
 {
-    let mut x = o;
-    let mut j: usize = 0;
-    while j < r {
-        let k = at + j;
-        wires[k] = i;
-        offsets[k] = x as u32;
-        x = states::least(w, x + span);
-        j += 1;
+    let mut offset = run.lowest;
+    for j in 0..run.count {
+        wires[at + j] = run.wire;
+        offsets[at + j] = offset as u32;
+        offset = run.size.min(offset + run.span);
     }
 }
