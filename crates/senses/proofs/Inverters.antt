@@ -1,4 +1,5 @@
 -- The inverters from the source to a node are those on its own wire and those down to its parent: as many steps upward as the node's number are enough.
+use Rattle.std.specs.Prelude.{Ok}
 use Prim.Native.Nat.{ℕ, zero, suc, ◌+◌, ◌-◌, ◌*◌, ◌%◌, ◌≤◌, ◌<◌}
 use mathlib.Core.Path.{◌≡◌, refl, sym, ap, ◌∙◌}
 use mathlib.Core.List.{List, [], ◌∷◌}
@@ -12,7 +13,6 @@ use Rattle.rules.specs.Figures.{most_places}
 use Rattle.rules.specs.Net.{Net, places, parent}
 use Rattle.rules.specs.Legal.{on_the_way, inverters}
 use Rattle.rules.specs.Sound.{SoundNet}
-use Rattle.rules.specs.declared.Judged.TheVariants.{Sound}
 use Rattle.rules.specs.Load.{entries, offsets_on}
 use Rattle.rules.specs.Checked.{one_sense}
 use Rattle.load.specs.Tables.{Clear}
@@ -90,12 +90,12 @@ module _ {n : Net} (s : SoundNet n) (offs : ℕ → List ℕ) where
             omega (arith, t.at (parent n i) l, own.at i (omega arith))
 
 -- buffers invert nothing, and every polarity is 0 beside them
-pub buffers_agree : {n : Net} → SoundNet n → n.limits.repeater ≡ 0 → (offs : ℕ → List ℕ) → one_sense n offs ≡ Sound
+pub buffers_agree : {n : Net} → SoundNet n → n.limits.repeater ≡ 0 → (offs : ℕ → List ℕ) → one_sense n offs ≡ (Ok tt)
 unfolding inverters
 buffers_agree {n} s z offs = one_sense_lem n offs (record { one = 0; same = λ i k. rw z (omega (arith, s.polarity_most i)) })
 
 -- ---- the inverters on each wire, of the first k entries
-pub counted_clear : (vs os odd : List ℕ) → Clear odd → Counted (offsets_to vs os 0) 0 odd
+pub counted_clear : (vs os odd : List ℕ) → Clear 0 odd → Counted (offsets_to vs os 0) 0 odd
 unfolding entries offsets_on
 counted_clear vs os odd c = record { long = c.long; at = λ i l. omega (arith, c.none i) }
 

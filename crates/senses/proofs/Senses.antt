@@ -1,4 +1,5 @@
 -- The sense of each sink by the table of inverters, and the sense that all are held against: that of the lowest-numbered sink.
+use Rattle.std.specs.Prelude.{Ok, Err}
 use Prim.Native.Nat.{ℕ, ◌+◌, ◌-◌, ◌%◌, ◌≤◌, ◌<◌}
 use mathlib.Core.Path.{◌≡◌, refl, sym, ◌∙◌}
 use mathlib.Core.List.{List}
@@ -6,7 +7,6 @@ use native.Mathlib.Omega.{arith}
 use lib.ListN.{length, get_or}
 use borrow.Author.Tests.{eq-eqb, ne_eqb}
 use Rattle.rules.specs.declared.Refusal.TheVariants.{WrongParity}
-use Rattle.rules.specs.declared.Judged.TheVariants.{Sound, Refused}
 use Rattle.rules.specs.Net.{Net, places, kind, polarity}
 use Rattle.rules.specs.Legal.{sense}
 use Rattle.rules.specs.Sound.{SoundNet}
@@ -33,12 +33,12 @@ module _ {n : Net} {offs : ℕ → List ℕ} {odd : List ℕ} {k s m i : ℕ} (t
   pub senses_same : i < m → i < k → kind n i ≡ 1 → (get_or odd i 0 + polarity n i) % 2 ≡ s → Senses n offs s m (i + 1)
   senses_same h w z e = record { going = going_next g.going (omega arith) (rw (eq-eqb (kind n i) 1 z, eq-eqb (sense n offs i) s (sym (sense_by t i w) ∙ e))) }
 
-  pub senses_differ : i < m → i < k → kind n i ≡ 1 → ((get_or odd i 0 + polarity n i) % 2 ≡ s → ⊥) → Refused (WrongParity i) ≡ judge_each (has_sense n offs s) (m - 1) 1
+  pub senses_differ : i < m → i < k → kind n i ≡ 1 → ((get_or odd i 0 + polarity n i) % 2 ≡ s → ⊥) → Err (WrongParity i) ≡ judge_each (has_sense n offs s) (m - 1) 1
   senses_differ h w z e =
-      going_stop g.going (omega arith) (Refused (WrongParity i)) (WrongParity i) refl
+      going_stop g.going (omega arith) (Err (WrongParity i)) (WrongParity i) refl
       (rw (eq-eqb (kind n i) 1 z, ne_eqb (sense n offs i) s (λ q. e (sense_by t i w ∙ q))))
 
-  pub senses_end : m ≤ i → 1 ≤ m → Sound ≡ judge_each (has_sense n offs s) (m - 1) 1
+  pub senses_end : m ≤ i → 1 ≤ m → (Ok tt) ≡ judge_each (has_sense n offs s) (m - 1) 1
   senses_end h o = going_end g.going (omega arith)
 
 module _ {n : Net} {offs : ℕ → List ℕ} {odd : List ℕ} (s : SoundNet n) (t : Turned n offs (places n) odd) where
@@ -49,7 +49,7 @@ module _ {n : Net} {offs : ℕ → List ℕ} {odd : List ℕ} (s : SoundNet n) (
     lowest_is : lowest ≡ first_sink n (places n - 1) 1
     lowest_is = rw (← s.kinds_long) e
 
-    pub none_to_judge : length n.kinds ≤ lowest → one_sense n offs ≡ Sound
+    pub none_to_judge : length n.kinds ≤ lowest → one_sense n offs ≡ (Ok tt)
     none_to_judge h = no_sinks n offs s.some (omega (arith, lowest_is, s.kinds_long))
 
     pub against_lowest : lowest < length n.kinds → one_sense n offs ≡ judge_each (has_sense n offs ((get_or odd lowest 0 + polarity n lowest) % 2)) (length n.kinds - 1) 1

@@ -3,63 +3,37 @@
 
 ghost use Rattle.std.specs.Prelude.{◌≡◌, ◌+◌, ◌%◌, ◌-◌, ◌≤◌, ◌<◌, length, get_or};
 ghost use Rattle.rules.specs.Figures.{most_places};
-ghost use Rattle.rules.specs.Net.{Net, net_at, places};
+ghost use Rattle.rules.specs.Net.{Net, net_of, places};
 ghost use Rattle.rules.specs.Sound.{SoundNet};
 ghost use Rattle.rules.specs.Checked.{first_sink, one_sense};
 ghost use Rattle.load.specs.Tables.{Clear};
 ghost use Rattle.load.specs.Asks.{offsets_at, Placed};
 ghost use Rattle.senses.specs.Parity.{Counted, Turned};
 
-use rules::{Judged, Limits, Refusal};
+use rules::{LentNet, LentPlacement, Refusal};
 
 // Whether the entries on each wire are odd in number.
-fn count_turns(
-    limits: Limits,
-    parent: &[u16],
-    wire: &[u32],
-    kind: &[u8],
-    pin: &[u32],
-    polarity: &[u8],
-    wires: &[u16],
-    offsets: &[u32],
-    odd: &mut [u8; load::PLACES],
-)
-    requires placed { Placed (net_at limits parent wire kind pin polarity) wires.now offsets.now }
-    requires clear { Clear odd.old }
-    ensures { Counted (offsets_at wires.entry offsets.entry) 0 odd.new }
+fn count_turns(net: &LentNet, placement: &LentPlacement, odd: &mut [u8; load::PLACES])
+    requires placed { Placed (net_of net.now) placement.now.wires.now placement.now.offsets.now }
+    requires clear { Clear 0 odd.old }
+    ensures { Counted (offsets_at placement.now) 0 odd.new }
 {
-    let mut k = 0;
-    while k < wires.len() {
-        let on = wires[k] as usize;
+    for k in 0..placement.wires.len() {
+        let on = placement.wires[k] as usize;
         odd[on] = 1 - odd[on];
-        k += 1;
     }
 }
 
 // Whether the inverters from the source to each node are odd, each node after its parent, from those on each wire.
-fn turns(
-    limits: Limits,
-    parent: &[u16],
-    wire: &[u32],
-    kind: &[u8],
-    pin: &[u32],
-    polarity: &[u8],
-    wires: &[u16],
-    offsets: &[u32],
-    odd: &mut [u8; load::PLACES],
-)
-    requires sound_net { SoundNet (net_at limits parent wire kind pin polarity) × (limits.repeater ≡ 1) }
-    requires counted { Counted (offsets_at wires offsets) 0 odd.old }
-    ensures { Turned (net_at limits parent.entry wire.entry kind.entry pin.entry polarity.entry) (offsets_at wires.entry offsets.entry) (places (net_at limits parent.entry wire.entry kind.entry pin.entry polarity.entry)) odd.new }
+fn turns(net: &LentNet, placement: &LentPlacement, odd: &mut [u8; load::PLACES])
+    requires sound_net { SoundNet (net_of net.now) × (net.now.limits.repeater ≡ 1) }
+    requires counted { Counted (offsets_at placement.now) 0 odd.old }
+    ensures { Turned (net_of net.now) (offsets_at placement.now) (places (net_of net.now)) odd.new }
 {
     odd[0] = 0;
-    let mut i = 1;
-    while i < parent.len() {
-        let above = parent[i] as usize;
-        let higher = odd[above];
-        let own = odd[i];
-        odd[i] = (own + higher) % 2;
-        i += 1;
+    for i in 1..net.parent.len() {
+        let above = net.parent[i] as usize;
+        odd[i] = (odd[i] + odd[above]) % 2;
     }
 }
 
@@ -68,14 +42,12 @@ fn first_sink(kind: &[u8]) -> usize
     requires { 1 ≤ length kind.now }
     ensures { (n : Net) → n.kinds ≡ kind.now → result ≡ first_sink n (length n.kinds - 1) 1 }
 {
-    let mut i = 1;
-    while i < kind.len() {
+    for i in 1..kind.len() {
         if kind[i] == 1 {
             return i;
         }
-        i += 1;
     }
-    i
+    kind.len()
 }
 
 // Whether the inverters down to a node and its polarity make an odd sum.
@@ -88,63 +60,40 @@ fn sense(odd: &[u8; load::PLACES], polarity: &[u8], i: usize) -> u8
 
 // 12: each sink's inverters and polarity against those of the lowest-numbered sink.
 fn one_sense(
-    limits: Limits,
-    parent: &[u16],
-    wire: &[u32],
-    kind: &[u8],
-    pin: &[u32],
-    polarity: &[u8],
-    wires: &[u16],
-    offsets: &[u32],
+    net: &LentNet,
+    placement: &LentPlacement,
     odd: &[u8; load::PLACES],
-) -> Judged
-    requires sound_net { SoundNet (net_at limits parent wire kind pin polarity) }
-    requires turned { Turned (net_at limits parent wire kind pin polarity) (offsets_at wires offsets) (places (net_at limits parent wire kind pin polarity)) odd.now }
-    ensures { result ≡ one_sense (net_at limits parent.entry wire.entry kind.entry pin.entry polarity.entry) (offsets_at wires.entry offsets.entry) }
+) -> Result<(), Refusal>
+    requires sound_net { SoundNet (net_of net.now) }
+    requires turned { Turned (net_of net.now) (offsets_at placement.now) (places (net_of net.now)) odd.now }
+    ensures { result ≡ one_sense (net_of net.now) (offsets_at placement.now) }
 {
-    let lowest = first_sink(kind);
-    if kind.len() <= lowest {
-        return Judged::Sound;
+    let lowest = first_sink(net.kind);
+    if net.kind.len() <= lowest {
+        return Ok(());
     }
-    let mut i = 1;
-    while i < kind.len() {
-        if kind[i] == 1 {
-            let own = sense(odd, polarity, i);
-            let expected = sense(odd, polarity, lowest);
+    let expected = sense(odd, net.polarity, lowest);
+    for i in 1..net.kind.len() {
+        if net.kind[i] == 1 {
+            let own = sense(odd, net.polarity, i);
             if own != expected {
-                return Judged::Refused(Refusal::WrongParity(i));
+                return Err(Refusal::WrongParity(i));
             }
         }
-        i += 1;
     }
-    Judged::Sound
+    Ok(())
 }
 
 // 12, over a table of the inverters down to each node. Buffers invert nothing, and every polarity is 0 beside them.
-pub fn judge(
-    limits: Limits,
-    parent: &[u16],
-    wire: &[u32],
-    kind: &[u8],
-    pin: &[u32],
-    polarity: &[u8],
-    wires: &[u16],
-    offsets: &[u32],
-) -> Judged
-    requires { Placed (net_at limits parent wire kind pin polarity) wires.now offsets.now }
-    ensures { result ≡ one_sense (net_at limits parent.entry wire.entry kind.entry pin.entry polarity.entry) (offsets_at wires.entry offsets.entry) }
+pub fn judge(net: &LentNet, placement: &LentPlacement) -> Result<(), Refusal>
+    requires { Placed (net_of net.now) placement.now.wires.now placement.now.offsets.now }
+    ensures { result ≡ one_sense (net_of net.now) (offsets_at placement.now) }
 {
-    if limits.repeater == 0 {
-        return Judged::Sound;
+    if net.limits.repeater == 0 {
+        return Ok(());
     }
-    let mut odd = [0u8; load::PLACES];
-    count_turns(
-        limits, parent, wire, kind, pin, polarity, wires, offsets, &mut odd,
-    );
-    turns(
-        limits, parent, wire, kind, pin, polarity, wires, offsets, &mut odd,
-    );
-    one_sense(
-        limits, parent, wire, kind, pin, polarity, wires, offsets, &odd,
-    )
+    let mut odd = [0; load::PLACES];
+    count_turns(net, placement, &mut odd);
+    turns(net, placement, &mut odd);
+    one_sense(net, placement, &odd)
 }
