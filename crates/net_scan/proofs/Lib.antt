@@ -1,4 +1,3 @@
-pub mod Variants
 pub mod Judging
 pub mod Filling
 pub mod Leaving
