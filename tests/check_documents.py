@@ -13,7 +13,8 @@ PARAGRAPH = r"\d+\.\d+"
 
 # The calls that users make, and what the programs answer: what their contracts speak of is to be believed.
 CALLS = {
-    "net": "judge number place",
+    "rules": "number place",
+    "net": "judge",
     "net_reader": "read_net",
     "net_writer": "write_net",
     "placement_reader": "read_placement",
@@ -153,8 +154,8 @@ def uses(text):
 
 
 def contract(source, function):
-    """The lines that a function ensures."""
-    head = re.search(rf"^(?:pub )?fn {function}\b.*?^\{{", source, re.M | re.S).group(0)
+    """The lines that a function or a method ensures."""
+    head = re.search(rf"^ *(?:pub )?fn {function}\b.*?^ *\{{", source, re.M | re.S).group(0)
     return "\n".join(line for line in head.splitlines() if "ensures" in line)
 
 
