@@ -1,20 +1,20 @@
 -- The bytes of a placement, and how a buffer comes to hold them: each field laid where the last one ended.
+use Rattle.std.specs.Prelude.{Ok, Err, Result}
 use Prim.Native.Nat.{ℕ, ◌+◌, ◌-◌, ◌*◌, ◌<◌, ◌≤◌}
 use native.Mathlib.Omega.{arith}
 use mathlib.Core.Path.{◌≡◌, refl, sym, ap, ◌∙◌}
 use mathlib.Core.List.{List, [], ◌∷◌, ◌++◌}
-use lib.ListN.{length, length-append}
-use lib.Seq.{sets, length-sets}
+use lib.ListN.{length, take, drop, length-append, length-drop}
+use lib.Seq.{sets, length-sets, length-take-le}
+use borrow.Author.Tests.{le-ltb}
 use Rattle.rules.specs.Load.{entries}
 use Rattle.rules.specs.declared.Entry.{Entry}
 use Rattle.rules.specs.declared.Refusal.{Refusal}
 use Rattle.rules.specs.declared.Refusal.TheVariants.{NoRoom}
-use Rattle.rules.specs.declared.Judged.TheVariants.{Sound, Refused as Unsound}
 use Rattle.rules.specs.Figures.{most_entries}
-use Rattle.field.specs.Format.{bytes_of}
+use Rattle.field.specs.Format.{bytes_of, wrote}
 use Rattle.field.specs.declared.Value.TheVariants.{Count, Entry as AnEntry, End}
 use Rattle.field.proofs.Numbers.{sets_append}
-use Rattle.field.specs.declared.Wrote.TheVariants.{Bytes, Refused as NotWritten}
 use Rattle.field.proofs.Writing.{too_little, enough}
 use Rattle.field.specs.Listed.{listed}
 use Rattle.placement_file.specs.File.{column_entry, columns_judged, columns_of, entries_bytes, placement_bytes, WroteAs}
@@ -30,6 +30,15 @@ length_body (e ∷ es) = simp (length-append, length_body es) (omega arith)
 pub length_bytes : (es : List Entry) → length (placement_bytes es) ≡ 8 + 9 * length es
 unfolding placement_bytes
 length_bytes es = simp (length-append, length_body es) (omega arith)
+
+-- with room for it, what a written field answers is its length
+pub written_size : (bs out : List ℕ) {w : Result ℕ Refusal} {n : ℕ} → w ≡ wrote bs out → w ≡ Ok n → length bs ≤ length out → n ≡ length bs
+written_size bs out {w} {n} e q h = let z : ◌≡◌ {A = Result ℕ Refusal} (Ok n) (Ok (length bs)) = sym q ∙ e ∙ rw (le-ltb (length out) (length bs) h) in cc
+
+-- also behind what was written before
+pub written_behind : (bs out : List ℕ) (at : ℕ) {w : Result ℕ Refusal} {n : ℕ} → w ≡ wrote bs (take (length out - at) (drop at out)) → w ≡ Ok n → at + length bs ≤ length out → n ≡ length bs
+written_behind bs out at e q h =
+    written_size bs (take (length out - at) (drop at out)) e q (omega (arith, length-take-le (length out - at) (drop at out) (omega (arith, length-drop at out))))
 
 -- the writer's loop: what is still to be written decides what the buffer is to hold
 pub record Putting (vs os out₀ out : List ℕ) (at i : ℕ) : Type 0 where
@@ -77,21 +86,21 @@ module _ {vs os out₀ out : List ℕ} {at i : ℕ} (p : Putting vs os out₀ ou
 -- ---- what the writer answers and leaves, on each of its ways out
 
 module _ (vs os out : List ℕ) where
-  pub write_refused : {r : Refusal} → columns_judged vs os ≡ Unsound r → WroteAs (columns_of vs os) out out (NotWritten r)
+  pub write_refused : {r : Refusal} → columns_judged vs os ≡ Err r → WroteAs (columns_of vs os) out out (Err r)
   unfolding columns_of
   write_refused e = rw e (record { answered = refl; bytes = refl })
 
-  module _ (sound : columns_judged vs os ≡ Sound) where
+  module _ (sound : columns_judged vs os ≡ Ok tt) where
     pub columns_level : (length os ≡ length vs) × (length vs ≤ most_entries)
     columns_level = fits vs os (sound_columns vs os sound).0
 
     size_is : 8 + 9 * length vs ≡ length (placement_bytes (entries vs os))
     size_is = sym (length_bytes (entries vs os) ∙ ap (λ (k : ℕ). 8 + 9 * k) (length_entries vs os columns_level.0))
 
-    pub write_short : length out < 8 + 9 * length vs → WroteAs (columns_of vs os) out out (NotWritten (NoRoom (8 + 9 * length vs)))
+    pub write_short : length out < 8 + 9 * length vs → WroteAs (columns_of vs os) out out (Err (NoRoom (8 + 9 * length vs)))
     unfolding columns_of
     write_short h = let t = too_little (placement_bytes (entries vs os)) out size_is h in rw sound (record { answered = t.0; bytes = t.1 })
 
-    pub write_whole : 8 + 9 * length vs ≤ length out → {out' : List ℕ} → out' ≡ sets out 0 (placement_bytes (entries vs os)) → WroteAs (columns_of vs os) out out' (Bytes (8 + 9 * length vs))
+    pub write_whole : 8 + 9 * length vs ≤ length out → {out' : List ℕ} → out' ≡ sets out 0 (placement_bytes (entries vs os)) → WroteAs (columns_of vs os) out out' (Ok (8 + 9 * length vs))
     unfolding columns_of
     write_whole h e = let t = enough (placement_bytes (entries vs os)) out size_is h e in rw sound (record { answered = t.0; bytes = t.1 })

@@ -6,40 +6,31 @@ ghost use Rattle.std.proofs.lemmas.List.Edits.{sets};
 ghost use Rattle.rules.specs.Load.{entries};
 ghost use Rattle.placement_file.specs.File.{columns_of, placement_bytes, WroteAs};
 
-use field::{Value, Wrote};
-use placement_file::PlacementWrote;
-use rules::{Judged, Refusal};
+use field::Value;
+use rules::{LentPlacement, Refusal};
 
-// Writes the count, the entries and the end, each to the rest of the buffer, right behind its predecessor.
-fn write_fields(wires: &[u16], offsets: &[u32], out: &mut [u8])
-    requires { (length offsets.now ≡ length wires.now) × (length wires.now ≤ 4096) × (8 + 9 * length wires.now ≤ length out.old) }
-    ensures { out.new ≡ sets out.old 0 (placement_bytes (entries wires.now offsets.now)) }
+// Writes the count, the entries and the end, each to the rest of the buffer, right behind its predecessor. There is room for each.
+fn write_fields(placement: &LentPlacement, out: &mut [u8])
+    requires { let n = length placement.now.wires.now in (length placement.now.offsets.now ≡ n) × (n ≤ 4096) × (8 + 9 * n ≤ length out.old) }
+    ensures { out.new ≡ sets out.old 0 (placement_bytes (entries placement.now.wires.now placement.now.offsets.now)) }
 {
-    let n = wires.len();
-    field_writer::write_field(out, Value::Count(n as u16));
-    let mut at: usize = 5;
-    let mut i: usize = 0;
-    while i < n {
-        let e = placement::column_entry(wires, offsets, i);
-        field_writer::write_field(&mut out[at..], Value::Entry(e));
-        at += 9;
-        i += 1;
+    let n = placement.wires.len();
+    let mut at = field_writer::write_field(out, Value::Count(n as u16)).unwrap();
+    for i in 0..n {
+        at += field_writer::write_field(&mut out[at..], Value::Entry(placement.entry(i))).unwrap();
     }
-    field_writer::write_field(&mut out[at..], Value::End);
+    field_writer::write_field(&mut out[at..], Value::End).unwrap();
 }
 
 // Writes the file of a placement. The columns are judged, and the room, in the order of RULES 5.9, before anything is written.
-pub fn write_placement(wires: &[u16], offsets: &[u32], out: &mut [u8]) -> PlacementWrote
-    ensures { WroteAs (columns_of wires.now offsets.now) out.old out.new result }
+pub fn write_placement(placement: &LentPlacement, out: &mut [u8]) -> Result<usize, Refusal>
+    ensures { WroteAs (columns_of placement.now.wires.now placement.now.offsets.now) out.old out.new result }
 {
-    let judged = placement::judge(wires, offsets);
-    if let Judged::Refused(r) = judged {
-        return Wrote::Refused(r);
-    }
-    let size = 8 + 9 * wires.len();
+    placement::judge(placement)?;
+    let size = 8 + 9 * placement.wires.len();
     if out.len() < size {
-        return Wrote::Refused(Refusal::NoRoom(size as u64));
+        return Err(Refusal::NoRoom(size as u64));
     }
-    write_fields(wires, offsets, out);
-    Wrote::Bytes(size)
+    write_fields(placement, out);
+    Ok(size)
 }
