@@ -56,6 +56,16 @@ pub said_few : (word : List ℕ) (j n : ℕ) → n < 10 ^ suc j → length (said
 unfolding said
 said_few word j n h = simp length-append (omega (arith, few j n h))
 
+-- the most digits that a number of 16, of 32 and of 64 bits has
+pub said_in_16 : (word : List ℕ) (n : ℕ) → n < 65536 → length (said word n) ≤ length word + 5
+said_in_16 word n h = said_few word 4 n (omega arith)
+
+pub said_in_32 : (word : List ℕ) (n : ℕ) → n < 4294967296 → length (said word n) ≤ length word + 10
+said_in_32 word n h = said_few word 9 n (omega arith)
+
+pub said_in_64 : (word : List ℕ) (n : ℕ) → n < 18446744073709551616 → length (said word n) ≤ length word + 20
+said_in_64 word n h = said_few word 19 n (omega arith)
+
 -- ---- the digits read back
 
 -- the number that a text of digits stands for, after the number before it

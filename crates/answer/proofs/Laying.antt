@@ -8,7 +8,7 @@ use borrow.Rule.Slice.PartMut.{put_mid}
 use lib.Seq.{drop-drop, sets, sets-eq, take-append_seam, length-sets}
 use Rattle.field.proofs.Numbers.{sets_append}
 use Rattle.answer.specs.declared.Line.{Line}
-use Rattle.answer.specs.Text.{Laid, IsLine, end}
+use Rattle.answer.specs.Text.{Laid, IsLine, Continues}
 
 -- bytes that were copied to the place `at` on
 pub copied : (l bs part : List ℕ) (at k : ℕ) → part ≡ bs → k ≡ length bs → at + length bs ≤ length l → put_mid at k l part ≡ sets l at bs
@@ -20,13 +20,13 @@ then_laid {l} {xs} {ys} {at = at} a b = record { ends = simp length-append (omeg
 pub kept : {l bs l₁ : List ℕ} {at n : ℕ} → Laid l at bs l₁ n → length l₁ ≡ length l
 kept {l} {bs} {at = at} a = ap length a.stands ∙ length-sets l at bs
 
--- the end laid after the front of a line that has room for it
-pub ended : {front l l₁ : List ℕ} {n m : ℕ} → Laid (replicate 64 0) 0 front l n → Laid l n end l₁ m → n + 1 ≤ length l → IsLine (front ++ end) (record { text = l₁; bytes = m })
-ended {front} {m = m} a b h =
-    let long : length (front ++ end) ≡ length front + 1 = length-append front end in
-    let whole = then_laid a b in
-    let e : m ≡ length (front ++ end) = omega arith in
-    record { is = cc; short = omega (arith, kept a) }
+-- bytes laid behind what a line holds
+pub continues : {bs l : List ℕ} {before : Line} {n : ℕ} → Laid before.text before.bytes bs l n → n ≤ 64 → Continues before bs (record { text = l; bytes = n })
+continues {bs} {before = before} {n = n} a room front h =
+    let there : Laid (replicate 64 0) 0 front before.text before.bytes = record { ends = omega (arith, ap (λ (r : Line). r.bytes) h.is); stands = ap (λ (r : Line). r.text) h.is } in
+    let whole = then_laid there a in
+    let long : n ≡ length (front ++ bs) = omega (arith, whole.ends) in
+    record { is = cc (whole.stands, long); short = omega arith }
 
 pub laid_as : {l l₁ xs ys : List ℕ} {at n : ℕ} → xs ≡ ys → Laid l at xs l₁ n → Laid l at ys l₁ n
 laid_as e a = rw e at a

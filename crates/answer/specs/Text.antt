@@ -94,6 +94,10 @@ pub record IsLine (bytes : List ℕ) (r : Line) : Type 0 where
   pub is : r ≡ line bytes
   pub short : length bytes ≤ 64
 
+-- a line that is written on: what stood in it, and `bytes` behind that
+abbrev pub Continues : Line → List ℕ → Line → Type 0
+Continues before bytes after = (front : List ℕ) → IsLine front before → IsLine (front ++ bytes) after
+
 -- `bytes` stand in a buffer from the place `at` on, where `before` was; `next` is the place after them
 pub record Laid (before : List ℕ) (at : ℕ) (bytes after : List ℕ) (next : ℕ) : Type 0 where
   pub ends : next ≡ at + length bytes

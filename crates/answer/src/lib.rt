@@ -1,8 +1,8 @@
 // The lines that are printed (RULES 7 and 11).
 #![tactic(auto)]
 
-ghost use Rattle.std.specs.Prelude.{◌≡◌, ◌+◌, ◌*◌, ◌≤◌, length, take};
-ghost use Rattle.answer.specs.Text.{Laid, digits, said, count_line, pair_line, entry_line, refused_line, refused_by, IsLine, entry_lines, place_line, place_lines, loads_text, answer_text, counted_text};
+ghost use Rattle.std.specs.Prelude.{◌≡◌, ◌+◌, ◌*◌, ◌≤◌, ◌<◌, [], length, take};
+ghost use Rattle.answer.specs.Text.{Laid, end, digits, said, count_line, pair_line, entry_line, refused_line, refused_by, IsLine, Continues, entry_lines, place_line, place_lines, loads_text, answer_text, counted_text};
 
 use rules::{LentPlacement, Refusal};
 
@@ -11,6 +11,41 @@ use rules::{LentPlacement, Refusal};
 pub struct Line {
     pub text: [u8; 64],
     pub bytes: usize,
+}
+
+impl Line {
+    fn empty() -> Line
+        ensures { IsLine [] result }
+    {
+        Line {
+            text: [0; 64],
+            bytes: 0,
+        }
+    }
+
+    // A word and its number, behind what stands there.
+    fn say(&mut self, word: &[u8], n: u64)
+        requires { self.old.bytes + length (said word.now n) ≤ 64 }
+        ensures bytes { self.new.bytes ≡ self.old.bytes + length (said word.now n) }
+        ensures text { Continues self.old (said word.now n) self.new }
+    {
+        self.bytes = say(&mut self.text, self.bytes, word, n);
+    }
+
+    // The line's end.
+    fn end(&mut self)
+        requires { self.old.bytes < 64 }
+        ensures { Continues self.old end self.new }
+    {
+        self.bytes = put(&mut self.text, self.bytes, b"\n");
+    }
+
+    pub fn as_bytes(&self) -> &[u8]
+        requires { self.now.bytes ≤ length self.now.text }
+        ensures { result.now ≡ take self.now.bytes self.now.text }
+    {
+        &self.text[..self.bytes]
+    }
 }
 
 // Lays some bytes from the place at on, and answers the place after them.
@@ -42,52 +77,60 @@ pub fn say(out: &mut [u8], at: usize, word: &[u8], n: u64) -> usize
 }
 
 // A word and its number: `least N`, `legal N`, `source drives L`.
+#[tactic(auto, using(crate::proofs::Digits::said_in_64))]
 pub fn count_line(word: &[u8], n: u64) -> Line
     requires { length word.now ≤ 43 }
     ensures { IsLine (count_line word.now n) result }
 {
-    let mut text = [0u8; 64];
-    let at = say(&mut text, 0, word, n);
-    let bytes = put(&mut text, at, b"\n");
-    Line { text, bytes }
+    let mut line = Line::empty();
+    line.say(word, n);
+    line.end();
+    line
 }
 
 // Two words, each with its number: `wire W offset O`, `refused N place P`, `legal N least M`.
+#[tactic(auto, using(crate::proofs::Digits::said_in_64))]
 pub fn pair_line(first: &[u8], n: u64, second: &[u8], m: u64) -> Line
     requires { length first.now + length second.now ≤ 23 }
     ensures { IsLine (pair_line first.now n second.now m) result }
 {
-    let mut text = [0u8; 64];
-    let middle = say(&mut text, 0, first, n);
-    let at = say(&mut text, middle, second, m);
-    let bytes = put(&mut text, at, b"\n");
-    Line { text, bytes }
+    let mut line = Line::empty();
+    line.say(first, n);
+    line.say(second, m);
+    line.end();
+    line
 }
 
 // `wire W offset O drives L`: an entry and its load.
+#[tactic(auto, using(crate::proofs::Digits::said_in_16, crate::proofs::Digits::said_in_32, crate::proofs::Digits::said_in_64))]
 pub fn entry_line(wire: u16, offset: u32, load: u64) -> Line
     ensures { IsLine (entry_line wire offset load) result }
 {
-    let mut text = [0u8; 64];
-    let first = say(&mut text, 0, b"wire ", wire as u64);
-    let second = say(&mut text, first, b" offset ", offset as u64);
-    let third = say(&mut text, second, b" drives ", load);
-    let bytes = put(&mut text, third, b"\n");
-    Line { text, bytes }
+    let mut line = Line::empty();
+    line.say(b"wire ", u64::from(wire));
+    line.say(b" offset ", u64::from(offset));
+    line.say(b" drives ", load);
+    line.end();
+    line
 }
 
 // `wire W offset O`: an entry alone.
 fn place_line(wire: u16, offset: u32) -> Line
     ensures { IsLine (place_line wire offset) result }
 {
-    pair_line(b"wire ", wire as u64, b" offset ", offset as u64)
+    pair_line(b"wire ", u64::from(wire), b" offset ", u64::from(offset))
 }
 
 // `refused N place P`.
 pub fn refused_line(why: Refusal) -> Line
     ensures { IsLine (refused_line why) result }
 {
-    pair_line(b"refused ", why.number() as u64, b" place ", why.place())
+    pair_line(
+        b"refused ",
+        u64::from(why.number()),
+        b" place ",
+        why.place(),
+    )
 }
 
 // Lays a line from the place at on, and answers the place after it.
@@ -95,7 +138,7 @@ pub fn put_line(out: &mut [u8], at: usize, line: Line) -> usize
     requires { (line.bytes ≤ length line.text) × (at + line.bytes ≤ length out.old) }
     ensures { Laid out.old at (take line.bytes line.text) out.new result }
 {
-    put(out, at, &line.text[..line.bytes])
+    put(out, at, line.as_bytes())
 }
 
 // Lays one line an entry.

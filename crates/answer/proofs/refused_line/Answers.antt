@@ -4,4 +4,4 @@ use Rattle.answer.proofs.refused_line.Goals as goal
 
 pub returns : goal.returns
 unfolding refused_line
-returns c = rw (← c.place.ensures, ← c.number.ensures) c.pair_line.ensures
+returns c = rw (← c.place.ensures, ← c.number.ensures, ← c.from.ensures) c.pair_line.ensures
