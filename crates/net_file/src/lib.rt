@@ -22,6 +22,7 @@ pub struct Taken {
 }
 
 // Columns of the reader's own, with a place for each node that a net may have.
+#[derive(Drop)]
 pub struct Columns {
     pub parent: [u16; 1025],
     pub wire: [u32; 1025],
