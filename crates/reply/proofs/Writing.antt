@@ -1,4 +1,5 @@
 -- A placement that stands on a sound net can be written, and its file says it.
+use Rattle.std.specs.Prelude.{Ok, Result, IsOk}
 use Prim.Native.Nat.{ℕ, ◌*◌, ◌+◌, ◌≤◌}
 use native.Mathlib.Omega.{arith}
 use mathlib.Core.Path.{◌≡◌}
@@ -14,8 +15,6 @@ use Rattle.rules.specs.Load.{entries}
 use Rattle.rules.specs.Legal.{InOrder, Stands}
 use Rattle.rules.specs.Sound.{SoundNet}
 use Rattle.rules.proofs.Tests.{both_true}
-use Rattle.field.specs.declared.Wrote.{Wrote}
-use Rattle.field.specs.declared.Wrote.TheVariants.{Bytes, Refused}
 use Rattle.placement_file.specs.File.{entry_in_range, wire, offset, placement, columns_of, placement_bytes, WroteAs}
 use Rattle.placement_file.proofs.RoundTrip.{Ranged, Placed, columns_back, entries_back}
 use Rattle.placement_file.proofs.SamePlacement.{wrote_as}
@@ -39,15 +38,15 @@ stands_placed d p sound o few = record { few = few; ranged = ranged d p sound o 
 pub columns_fit_lem : (ws os : List ℕ) (p : List Entry) → ws ≡ map wire p → os ≡ map offset p → Placed p → (entries ws os ≡ p) × (columns_of ws os ≡ placement p)
 columns_fit_lem ws os p w o fit = (rw (w, o) (entries_back p), rw (w, o) (columns_back p fit))
 
-module _ (ws os : List ℕ) {out left : List ℕ} {r : Wrote} (p : List Entry) (is : columns_of ws os ≡ placement p) (few : length p ≤ most_entries) (room : 8 + 9 * most_entries ≤ length out) (a : WroteAs (columns_of ws os) out left r) where
+module _ (ws os : List ℕ) {out left : List ℕ} {r : Result ℕ Refusal} (p : List Entry) (is : columns_of ws os ≡ placement p) (few : length p ≤ most_entries) (room : 8 + 9 * most_entries ≤ length out) (a : WroteAs (columns_of ws os) out left r) where
   fits : length (placement_bytes p) ≤ length out
   fits = omega (arith, length_bytes p)
 
-  pub wrote_shows : (k : ℕ) → r ≡ Bytes k → Shows (placement_bytes p) left k
+  pub wrote_shows : (k : ℕ) → r ≡ Ok k → Shows (placement_bytes p) left k
   wrote_shows k e =
       let (b, l) = wrote_as is a fits in
       let n : k ≡ length (placement_bytes p) = cc in
       rw n (laid_shows out (placement_bytes p) l fits)
 
-  pub never_refused : (x : Refusal) → r ≡ Refused x → ⊥
-  never_refused x e = let b = (wrote_as is a fits).0 in let z : ◌≡◌ {A = ℕ} 0 1 = cc in omega arith
+  pub never_refused : IsOk r
+  never_refused = rw (wrote_as is a fits).0

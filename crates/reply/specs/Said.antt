@@ -1,11 +1,13 @@
 -- What a verb of the desk says (RULES 11.2 to 11.4): the text on standard output, the bytes that `-o` writes, and the status.
+use Rattle.std.specs.Prelude.{Ok, Err}
 use Rattle.std.specs.Prelude.{ℕ, ◌+◌, ◌*◌, ◌≤◌, ◌≡◌, List, [], ◌∷◌, length, take}
 use Rattle.rules.specs.declared.Refusal.{Refusal}
-use Rattle.rules.specs.declared.Judged.{Judged}
-use Rattle.rules.specs.declared.Judged.TheVariants.{Sound, Refused}
+use Rattle.rules.specs.Judged.{Judged}
 use Rattle.rules.specs.Figures.{most_entries}
 use Rattle.answer.specs.Text.{refused_by}
 use Rattle.reply.specs.declared.Reply.{Reply}
+use Rattle.reply.specs.declared.Status.{Status}
+use Rattle.reply.specs.declared.Status.TheVariants.{Answered, Refused}
 
 pub record Said : Type 0 where
   pub text : List ℕ
@@ -22,8 +24,8 @@ refusal word r = record { text = refused_by word r; file = []; status = 49 }
 
 -- what is said where nothing is refused, or the refusal, without a word before it
 abbrev pub or_refusal : Judged → Said → Said
-or_refusal Sound s = s
-or_refusal (Refused r) s = refusal [] r
+or_refusal (Ok _) s = s
+or_refusal (Err r) s = refusal [] r
 
 -- ---- which file is at fault (RULES 11.3)
 
@@ -43,11 +45,16 @@ pub record Shows (text after : List ℕ) (r : ℕ) : Type 0 where
   pub within : r ≤ length after
   pub counted : r ≡ length (take r after)
 
+-- the character of a status
+abbrev pub byte_of : Status → ℕ
+byte_of Answered = 48
+byte_of Refused = 49
+
 -- the first places of two buffers, and the status
 pub record Replies (said : Said) (texts files : List ℕ) (r : Reply) : Type 0 where
   pub text : Shows said.text texts r.text
   pub file : Shows said.file files r.file
-  pub status : r.status ≡ said.status
+  pub status : byte_of r.status ≡ said.status
 
 -- a reply that says something right
 pub record Conveys (Right : Said → Type 0) (texts files : List ℕ) (r : Reply) : Type 0 where
