@@ -1,53 +1,20 @@
-// A net file, read into five lent columns: RULES 6.6.
+// A net file, read into lent columns: RULES 6.6.
 #![tactic(auto)]
 
-ghost use Rattle.std.specs.Prelude.{◌≡◌, ◌≤◌, min};
-ghost use Rattle.rules.specs.Net.{net_at, node, unlimited, net};
-ghost use Rattle.field.specs.Listed.{listed};
-ghost use Rattle.net_file.specs.NetFile.{columns_of, room, laid_over, ReadNet};
+ghost use Rattle.std.specs.Prelude.{◌≡◌, ◌≤◌, length};
+ghost use Rattle.std.proofs.lemmas.List.Edits.{sets};
+ghost use Rattle.rules.specs.Net.{net, unlimited};
+ghost use Rattle.net_file.specs.NetFile.{kept_in, ReadNet};
 
-use net_file::NetRead;
+use net_file::{Columns, NetRead};
 use rules::Refusal;
 
-// The first n places of our own columns, copied into lent ones.
-fn fill(
-    n: usize,
-    parents: &[u16; 1025],
-    wires: &[u32; 1025],
-    kinds: &[u8; 1025],
-    pins: &[u32; 1025],
-    polarities: &[u8; 1025],
-    parent: &mut [u16],
-    wire: &mut [u32],
-    kind: &mut [u8],
-    pin: &mut [u32],
-    polarity: &mut [u8],
-)
-    requires { (n ≤ 1025) × (n ≤ room (net unlimited parent.old wire.old kind.old pin.old polarity.old)) }
-    ensures { net unlimited parent.new wire.new kind.new pin.new polarity.new ≡ laid_over (net unlimited parent.old wire.old kind.old pin.old polarity.old) 0 (columns_of unlimited (listed (node (net_at unlimited parents.entry wires.entry kinds.entry pins.entry polarities.entry)) n 0)) }
+// The first places of a lent column, filled from one of our own.
+fn fill<T: Copy>(lent: &mut [T], own: &[T])
+    requires { length own.now ≤ length lent.old }
+    ensures { lent.new ≡ sets lent.old 0 own.now }
 {
-    let mut i: usize = 0;
-    while i < n {
-        parent[i] = parents[i];
-        wire[i] = wires[i];
-        kind[i] = kinds[i];
-        pin[i] = pins[i];
-        polarity[i] = polarities[i];
-        i += 1;
-    }
-}
-
-fn lower(a: usize, b: usize) -> usize
-    ensures { result ≡ min a b }
-{
-    if a <= b { a } else { b }
-}
-
-// The room: the shortest column (RULES 6.2).
-fn shortest(parent: usize, wire: usize, kind: usize, pin: usize, polarity: usize) -> usize
-    ensures { result ≡ min parent (min wire (min kind (min pin polarity))) }
-{
-    lower(parent, lower(wire, lower(kind, lower(pin, polarity))))
+    lent[..own.len()].copy_from_slice(own);
 }
 
 // Reads a net file into five lent columns. All of it is judged, and then the room, before anything is filled.
@@ -58,47 +25,39 @@ pub fn read_net(
     kind: &mut [u8],
     pin: &mut [u32],
     polarity: &mut [u8],
-) -> NetRead
+) -> Result<NetRead, Refusal>
     ensures { ReadNet s.now (net unlimited parent.old wire.old kind.old pin.old polarity.old) (net unlimited parent.new wire.new kind.new pin.new polarity.new) result }
 {
-    let mut parents = [0u16; 1025];
-    let mut wires = [0u32; 1025];
-    let mut kinds = [0u8; 1025];
-    let mut pins = [0u32; 1025];
-    let mut polarities = [0u8; 1025];
-    let judged = net_scan::judge_file(
-        s,
-        &mut parents,
-        &mut wires,
-        &mut kinds,
-        &mut pins,
-        &mut polarities,
-    );
-    let NetRead::Read { limits: _, places } = judged else {
-        return judged;
-    };
-    let most = shortest(
-        parent.len(),
-        wire.len(),
-        kind.len(),
-        pin.len(),
-        polarity.len(),
-    );
-    if most < places {
-        return NetRead::Refused(Refusal::NoRoom(places as u64));
+    let mut own = Columns::blank();
+    let read = net_scan::judge_file(s, &mut own)?;
+    let room = parent
+        .len()
+        .min(wire.len())
+        .min(kind.len())
+        .min(pin.len())
+        .min(polarity.len());
+    if room < read.places {
+        return Err(Refusal::NoRoom(read.places as u64));
     }
-    fill(
-        places,
-        &parents,
-        &wires,
-        &kinds,
-        &pins,
-        &polarities,
-        parent,
-        wire,
-        kind,
-        pin,
-        polarity,
-    );
-    judged
+    let net = own.lent(read.limits, read.places);
+    fill(parent, net.parent);
+    fill(wire, net.wire);
+    fill(kind, net.kind);
+    fill(pin, net.pin);
+    fill(polarity, net.polarity);
+    Ok(read)
+}
+
+// Reads a net file into columns that have room for any net.
+pub fn read(s: &[u8], columns: &mut Columns) -> Result<NetRead, Refusal>
+    ensures { ReadNet s.now (kept_in columns.old) (kept_in columns.new) result }
+{
+    read_net(
+        s,
+        &mut columns.parent,
+        &mut columns.wire,
+        &mut columns.kind,
+        &mut columns.pin,
+        &mut columns.polarity,
+    )
 }
