@@ -1,4 +1,5 @@
 -- The walk of 11 over the loads, a step each, at driver k: what is left decides the answer.
+use Rattle.std.specs.Prelude.{Ok, Err}
 use Prim.Native.Nat.{ℕ, suc, ◌+◌, ◌≤◌, ◌<◌}
 use mathlib.Core.Path.{◌≡◌, refl, sym, ap, ◌∙◌}
 use mathlib.Core.Bool.{Bool, true, false}
@@ -8,7 +9,6 @@ use lib.Dec.{leb}
 use lib.ListN.{length, get_or, drop, drop_of_length-le}
 use lib.Seq.{drop-cons}
 use borrow.Author.Tests.{le-leb, lt-leb}
-use Rattle.rules.specs.declared.Judged.TheVariants.{Sound, Refused}
 use Rattle.rules.specs.declared.Refusal.TheVariants.{Overloaded}
 use Rattle.rules.specs.Judge.{unless, then_judge}
 use Rattle.rules.specs.Checked.{within_limit}
@@ -22,10 +22,10 @@ module _ (limit : ℕ) (loads : List ℕ) (k : ℕ) where
   pub within_next : k < length loads → get_or loads k 0 ≤ limit → within_limit limit k (drop k loads) ≡ within_limit limit (suc k) (drop (suc k) loads)
   within_next h l = within_at h ∙ rw (le-leb (get_or loads k 0) limit l)
 
-  pub within_stop : k < length loads → limit < get_or loads k 0 → within_limit limit k (drop k loads) ≡ Refused (Overloaded k)
+  pub within_stop : k < length loads → limit < get_or loads k 0 → within_limit limit k (drop k loads) ≡ Err (Overloaded k)
   within_stop h l = within_at h ∙ rw (lt-leb (get_or loads k 0) limit l)
 
-  pub within_end : length loads ≤ k → within_limit limit k (drop k loads) ≡ Sound
+  pub within_end : length loads ≤ k → within_limit limit k (drop k loads) ≡ Ok tt
   unfolding within_limit
   within_end h = rw (drop_of_length-le loads h)
 
@@ -35,7 +35,7 @@ pub within_both : (limit k : ℕ) (loads : List ℕ) (last : ℕ)
 unfolding within_limit
 within_both limit k [] last = let e : k + 0 ≡ k = omega arith in rw e (go (leb last limit))
   where
-    go : (z : Bool) → then_judge (unless z (Overloaded k)) Sound ≡ unless z (Overloaded k)
+    go : (z : Bool) → then_judge (unless z (Overloaded k)) (Ok tt) ≡ unless z (Overloaded k)
     go true = refl
     go false = refl
 within_both limit k (load ∷ loads) last =

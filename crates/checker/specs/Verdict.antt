@@ -1,35 +1,19 @@
 -- What the checker answers (RULES 6.12): the number of entries and what the source drives, or the first refusal in the order of RULES 5.11.
-use Rattle.std.specs.Prelude.{ℕ, ◌≡◌, true, List, leb, length}
-use Rattle.rules.specs.declared.Judged.{Judged}
-use Rattle.rules.specs.declared.Judged.TheVariants.{Sound, Refused}
+use Rattle.std.specs.Prelude.{◌≡◌, true, ℕ, List, Result, Ok, leb, length}
+use Rattle.rules.specs.declared.Refusal.{Refusal}
 use Rattle.rules.specs.declared.Refusal.TheVariants.{Overloaded}
-use Rattle.rules.specs.Refusal.{number_of, place_of}
 use Rattle.rules.specs.Net.{Net}
 use Rattle.rules.specs.Load.{entries, offsets_on, source_drives, drivers}
 use Rattle.rules.specs.Legal.{Legal}
 use Rattle.rules.specs.Judge.{unless, then_judge, judged}
 use Rattle.rules.specs.Checked.{placement_fits, within_limit, one_sense, checked}
-use Rattle.checker.specs.declared.Verdict.{Verdict}
-use Rattle.checker.specs.declared.Verdict.TheVariants as verdicts
+use Rattle.load.specs.declared.Weighed.{Weighed}
+-- a verdict by its judgement; its number is 0 for a legal placement, or the refusal's; its count may be the refusal's place, and its source what stood there before
+pub use Rattle.rules.specs.Refusal.{judged_number as verdict_number}
+pub use Rattle.load.specs.Weighed.{weighed_by as verdict_of, weighed_count as verdict_count, weighed_source as verdict_source}
 
-abbrev pub verdict_of : Judged → ℕ → ℕ → Verdict
-verdict_of Sound count source = verdicts.Legal count source
-verdict_of (Refused r) count source = verdicts.Refused r
-
--- 0 for a legal placement, or the refusal's number
-abbrev pub verdict_number : Verdict → ℕ
-verdict_number (verdicts.Legal count source) = 0
-verdict_number (verdicts.Refused r) = number_of r
-
--- the count, or the refusal's place
-abbrev pub verdict_count : Verdict → ℕ
-verdict_count (verdicts.Legal count source) = count
-verdict_count (verdicts.Refused r) = place_of r
-
--- the source's load, or what stood there before
-abbrev pub verdict_source : Verdict → ℕ → ℕ
-verdict_source (verdicts.Legal count source) before = source
-verdict_source (verdicts.Refused r) before = before
+abbrev pub Verdict : Type 0
+Verdict = Result Weighed Refusal
 
 -- 11 for the source, and then 12
 abbrev pub settled : Net → List ℕ → List ℕ → Verdict
@@ -53,6 +37,6 @@ verdict n vs os = verdict_of (checked n vs os) (length vs) (source_drives n (off
 
 -- a sound net, and columns that fit and hold a legal placement of it
 pub record LegalColumns (n : Net) (vs os : List ℕ) : Type 0 where
-  pub sound : judged n ≡ Sound
+  pub sound : judged n ≡ Ok tt
   pub fit : placement_fits vs os ≡ true
   pub legal : Legal n (entries vs os)

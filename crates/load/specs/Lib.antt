@@ -1,3 +1,4 @@
 pub mod Next
 pub mod Tables
 pub mod Asks
+pub mod Weighed

@@ -17,6 +17,7 @@ pub const PLACES: usize = 1025;
 
 // The tables that the loads are told from. Of a wire: what it hands up by itself, and whether it asks no further down. Of a node: how far past it, less one, its
 // first child is, and how far its last.
+#[derive(Drop)]
 pub struct Tables {
     pub own: [u32; PLACES],
     pub shut: [bool; PLACES],
