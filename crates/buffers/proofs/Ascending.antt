@@ -1,37 +1,29 @@
 -- The way up as the loop keeps it.
-use Prim.Native.Nat.{ℕ, ◌≤◌}
-use mathlib.Core.Path.{◌≡◌, refl, sym, ap, ◌∙◌}
-use lib.ListN.{length}
-use native.Mathlib.Omega.{arith}
+use Rattle.std.specs.Prelude.{Ok, Err}
+use Prim.Native.Nat.{ℕ, suc, ◌<◌}
+use mathlib.Core.Path.{◌≡◌, refl, sym, subst}
+use Rattle.rules.specs.declared.Refusal.{Refusal}
+use Rattle.rules.specs.declared.Refusal.TheVariants.{NoLegalPlacement}
+use Rattle.rules.specs.Judged.{Judged}
 use Rattle.rules.specs.Net.{Net, places}
 use Rattle.frontier.specs.Cell.{Cell}
-use mathlib.Core.Bool.{Bool, true, false}
-use Rattle.buffers.specs.Going.{Tables, Going, Lost, Tried, can, cannot}
+use Rattle.buffers.specs.declared.Tables.{Tables}
+use Rattle.rules.specs.Sound.{SoundNet}
+use Rattle.buffers.specs.Going.{Going, Lost, Tried, can, cannot, AtNode}
 
--- the lengths of the tables are as they were
-pub record Same (t u : Tables) : Type 0 where
-  pub below : length u.below ≡ length t.below
-  pub tops : length u.tops ≡ length t.tops
-  pub on : length u.on ≡ length t.on
-  pub links : length u.links ≡ length t.links
+module _ {τ : Cell} {n : Net} {L : ℕ → ℕ} {t : Tables} {b i : ℕ} where
+  pub tried_ok : {r : Judged} → Tried τ n L t b i r → r ≡ Ok tt → Going τ n L t b i
+  tried_ok h e = go (subst (Tried τ n L t b i) e h)
+    where
+      go : Tried τ n L t b i (Ok tt) → Going τ n L t b i
+      go (can g) = g
 
-pub record Way (τ : Cell) (n : Net) (L : ℕ → ℕ) (t u : Tables) (i : ℕ) : Type 0 where
-  pub lo : 1 ≤ i
-  pub hi : i ≤ places n
-  pub going : Going τ n L u i i
-  pub same : Same t u
+  pub tried_err : {r : Judged} {x : Refusal} → Tried τ n L t b i r → r ≡ Err x → Lost τ n L × (x ≡ NoLegalPlacement)
+  tried_err h e = go (subst (Tried τ n L t b i) e h)
+    where
+      go : {x : Refusal} → Tried τ n L t b i (Err x) → Lost τ n L × (x ≡ NoLegalPlacement)
+      go (cannot l) = (l, refl)
 
-abbrev as_number : Bool → ℕ
-as_number true = 1
-as_number false = 0
-
-apart : {r : Bool} → r ≡ true → r ≡ false → ⊥
-apart p q = let z : ◌≡◌ {A = ℕ} 1 0 = ap as_number (sym p ∙ q) in omega arith
-
-pub tried_true : {τ : Cell} {n : Net} {L : ℕ → ℕ} {t : Tables} {b i : ℕ} {r : Bool} → Tried τ n L t b i r → r ≡ true → Going τ n L t b i
-tried_true (can g) e = g
-tried_true (cannot l) e = absurd (apart e refl)
-
-pub tried_false : {τ : Cell} {n : Net} {L : ℕ → ℕ} {t : Tables} {b i : ℕ} {r : Bool} → Tried τ n L t b i r → r ≡ false → Lost τ n L
-tried_false (can g) e = absurd (apart refl e)
-tried_false (cannot l) e = l
+-- before node i, after which the wires are joined
+pub node_at : {τ : Cell} {n : Net} {L : ℕ → ℕ} {t : Tables} {i j : ℕ} → SoundNet n → Going τ n L t j j → suc i ≡ j → i < places n → AtNode τ n L t i
+node_at {τ} {n} {L} {t} sound g e h = record { sound = sound; within = h; going = subst (λ (k : ℕ). Going τ n L t k k) (sym e) g }

@@ -15,7 +15,8 @@ use Rattle.frontier.specs.Cell.{Cell}
 use Rattle.relief.specs.Pieces.{bare, topped}
 use Rattle.relief.specs.Marks.{Relieved, hands, out}
 use Rattle.buffers.specs.Chain.{sum_l, Chain, Among, here, there}
-use Rattle.buffers.specs.Going.{Tables, tables, marks_of, kids, leads_in, Going, AtWire}
+use Rattle.buffers.specs.declared.Tables.{Tables}
+use Rattle.buffers.specs.Going.{tables, marks_of, kids, leads_in, Going, AtWire}
 use Rattle.buffers.proofs.Lists.{each_of, sum_same, sum_most}
 use Rattle.buffers.proofs.Kids.{kids_are, kids_take, kids_skip, kids_few, relieved_same}
 use Rattle.buffers.proofs.Settling.{out_fits}
@@ -148,45 +149,41 @@ module _ (τ : Cell) (eq : τ.cu ≡ τ.cb + τ.D) (pos : 1 ≤ τ.D) (small : �
       };
     }
 
--- ---- in the code's terms: what a step on a wire reads and writes
-pub record Reads (τ : Cell) (up ws leads below tops links : List ℕ) (i : ℕ) : Type 0 where
-  pub in_up : i < length up
-  pub in_wires : i < length ws
-  pub in_below : i < length below
-  pub in_tops : i < length tops
-  pub in_links : i < length links
+-- ---- what a step on a wire reads and writes
+pub record Reads (τ : Cell) (n : Net) (leads : List ℕ) (t : Tables) (i : ℕ) : Type 0 where
+  pub in_up : i < length n.parents
+  pub in_wires : i < length n.wires
+  pub in_leads : i < length leads
+  pub in_below : i < length t.below
+  pub in_tops : i < length t.tops
+  pub in_links : i < length t.links
   pub few : i < most_places
-  pub lower : get_or up i 0 < i
-  pub size : get_or ws i 0 ≤ most_wire
-  pub lead : get_or leads i 0 ≤ suc (get_or ws i 0)
-  pub load : get_or below i 0 ≤ τ.cu
-  pub sum : get_or below (get_or up i 0) 0 ≤ 1024000000
+  pub lower : parent n i < i
+  pub size : wire n i ≤ most_wire
+  pub lead : get_or leads i 0 ≤ suc (wire n i)
+  pub load : get_or t.below i 0 ≤ τ.cu
+  pub sum : get_or t.below (parent n i) 0 ≤ 1024000000
 
-module _ {τ : Cell} {up ws leads below tops links : List ℕ} {i : ℕ} (eq : τ.cu ≡ τ.cb + τ.D) (pos : 1 ≤ τ.D) (small : τ.cu ≤ most_limit) where
-  pub reads : (n : Net) (on : List ℕ) → AtWire τ up ws leads (tables below tops on links) i n → Reads τ up ws leads below tops links i
-  reads n on a =
-      let p : get_or n.parents i 0 ≡ get_or up i 0 = ap (λ (l : List ℕ). get_or l i 0) a.parents in
-      let w : get_or n.wires i 0 ≡ get_or ws i 0 = ap (λ (l : List ℕ). get_or l i 0) a.wires in
+module _ {τ : Cell} {n : Net} {leads : List ℕ} {t : Tables} {i : ℕ} (eq : τ.cu ≡ τ.cb + τ.D) (pos : 1 ≤ τ.D) (small : τ.cu ≤ most_limit) (a : AtWire τ n leads t i) where
+  pub reads : Reads τ n leads t i
+  reads =
       let l = a.going.long in
       record {
-        in_up = omega (arith, a.within, ap length a.parents);
-        in_wires = omega (arith, a.within, ap length a.wires, a.sound.wires_long);
+        in_up = a.within;
+        in_wires = omega (arith, a.within, a.sound.wires_long);
+        in_leads = omega (arith, a.within, a.led.long);
         in_below = omega (arith, a.within, l.enough, l.below);
         in_tops = omega (arith, a.within, l.enough);
         in_links = omega (arith, a.within, l.enough, l.links);
         few = omega (arith, a.within, a.sound.few);
-        lower = omega (arith, a.sound.lower i a.above a.within);
-        size = omega (arith, a.sound.wire_most i);
-        lead = omega (arith, a.led.low i);
+        lower = a.sound.lower i a.above a.within;
+        size = a.sound.wire_most i;
+        lead = a.led.low i;
         load = a.going.marked.fits i (omega arith) a.within;
-        sum = subst (λ (q : ℕ). get_or below q 0 ≤ 1024000000) p (below_few τ eq pos small a.sound (leads_in leads) (tables below tops on links) i a.above a.within a.going);
+        sum = below_few τ eq pos small a.sound (leads_in leads) t i a.above a.within a.going;
       }
 
-  -- p the parent, a what the wire hands up
-  pub push : (p b : ℕ) → p ≡ get_or up i 0 → b ≡ bare τ (get_or ws i 0) (get_or leads i 0) (get_or below i 0) → (n : Net) (on : List ℕ) → AtWire τ up ws leads (tables below tops on links) i n
-      → Going τ n (leads_in leads) (tables (set below p (get_or below p 0 + b)) (set tops i b) on (set (set links i (get_or links p 0)) p i)) i i
-  push p b ep eb n on a =
-      let q : get_or n.parents i 0 ≡ p = ap (λ (l : List ℕ). get_or l i 0) a.parents ∙ sym ep in
-      let w : get_or ws i 0 ≡ get_or n.wires i 0 = ap (λ (l : List ℕ). get_or l i 0) (sym a.wires) in
-      subst (λ (p : ℕ). Going τ n (leads_in leads) (tables (set below p (get_or below p 0 + b)) (set tops i b) on (set (set links i (get_or links p 0)) p i)) i i) q
-      (pushed τ eq pos small a.sound (leads_in leads) (tables below tops on links) i a.above a.within a.going b (eb ∙ ap (λ (x : ℕ). bare τ x (get_or leads i 0) (get_or below i 0)) w))
+  -- b is what the wire hands up
+  pub push : (b : ℕ) → b ≡ bare τ (wire n i) (get_or leads i 0) (get_or t.below i 0)
+      → Going τ n (leads_in leads) (tables (set t.below (parent n i) (get_or t.below (parent n i) 0 + b)) (set t.tops i b) t.on (set (set t.links i (get_or t.links (parent n i) 0)) (parent n i) i)) i i
+  push b e = pushed τ eq pos small a.sound (leads_in leads) t i a.above a.within a.going b e

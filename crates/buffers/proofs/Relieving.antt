@@ -1,4 +1,5 @@
 -- Topping the heaviest wire keeps what makes the choice the best.
+use Rattle.std.specs.Prelude.{Option, Some, None}
 use Prim.Native.Nat.{ℕ, ◌+◌, ◌-◌, ◌≤◌, ◌<◌}
 use mathlib.Core.Path.{◌≡◌, refl, sym, subst, ap, ◌∙◌}
 use mathlib.Core.List.{List, [], ◌∷◌}
@@ -148,13 +149,12 @@ module _ {τ : Cell} {links tops₀ on₀ : List ℕ} {first load : ℕ} {tops o
   chain_now = subst (λ (N : ℕ). Chain N links first js) (sym p.easing.tops_long) p.loaded.chained.chain
 
   pub progress_chained : Chained links tops first
-  progress_chained = let c = p.loaded.chained in record { long = c.long ∙ sym p.easing.tops_long; few = omega (arith, c.few, p.easing.tops_long); js = js; chain = chain_now; low = c.low }
+  progress_chained = let c = p.loaded.chained in record { long = c.long ∙ sym p.easing.tops_long; few = omega (arith, c.few, p.easing.tops_long); js = js; chain = chain_now }
 
-  pub picked : (j : ℕ) → ((is : List ℕ) → Chain (length tops) links first is → Heaviest tops τ.cb is j) → (j ≡ 0 → ⊥) → Picked τ tops on js h j
-  picked j f ne = go (f js chain_now)
+  pub picked : {r : Option ℕ} {j : ℕ} → ((is : List ℕ) → Chain (length tops) links first is → Heaviest tops τ.cb is r) → r ≡ Some j → Picked τ tops on js h j
+  picked {j = j} f e = go (subst (Heaviest tops τ.cb js) e (f js chain_now))
     where
-      go : Heaviest tops τ.cb js j → Picked τ tops on js h j
-      go (no_more e x) = absurd (ne e)
+      go : Heaviest tops τ.cb js (Some j) → Picked τ tops on js h j
       go (is_at a o m) = record {
         among = a;
         over = o;
@@ -177,9 +177,8 @@ module _ {τ : Cell} {links tops₀ on₀ : List ℕ} {first load : ℕ} {tops o
   pub progress_fits : h ≤ τ.cu → (is : List ℕ) → Chain (length tops₀) links first is → Eased τ tops₀ on₀ tops on is h
   progress_fits le = all_chains (record { easing = p.easing; ended = within le })
 
-  pub progress_stuck : (j : ℕ) → ((is : List ℕ) → Chain (length tops) links first is → Heaviest tops τ.cb is j) → j ≡ 0 → τ.cu < h → (is : List ℕ) → Chain (length tops₀) links first is → Eased τ tops₀ on₀ tops on is h
-  progress_stuck j f z full = all_chains (record { easing = p.easing; ended = stuck full (go (f js chain_now)) })
+  pub progress_stuck : {r : Option ℕ} → ((is : List ℕ) → Chain (length tops) links first is → Heaviest tops τ.cb is r) → r ≡ None → τ.cu < h → (is : List ℕ) → Chain (length tops₀) links first is → Eased τ tops₀ on₀ tops on is h
+  progress_stuck f e full = all_chains (record { easing = p.easing; ended = stuck full (go (subst (Heaviest tops τ.cb js) e (f js chain_now))) })
     where
-      go : Heaviest tops τ.cb js j → Each (λ i. get_or tops i 0 ≤ τ.cb) js
-      go (no_more e x) = x
-      go (is_at a o m) = absurd (omega (arith, each_at (λ i. 1 ≤ i) js p.loaded.chained.low j a))
+      go : Heaviest tops τ.cb js None → Each (λ i. get_or tops i 0 ≤ τ.cb) js
+      go (no_more x) = x

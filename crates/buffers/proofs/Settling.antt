@@ -17,8 +17,10 @@ use Rattle.relief.proofs.Pieces.{T-ceil}
 use Rattle.relief.specs.Marks.{Divides, light, heavy, Relieved, Marks, hands, out, Marked, pin_over, wires_over}
 use Rattle.buffers.specs.Chain.{sum_l, Chain, Among}
 use Rattle.buffers.specs.Easing.{Fresh, Loaded, Easing, Ended, within, stuck, Eased}
-use mathlib.Core.Bool.{true, false}
-use Rattle.buffers.specs.Going.{Tables, tables, marks_of, kids, Going, Lost, Tried, can, cannot, AtNode}
+use Rattle.std.specs.Prelude.{Ok, Err}
+use Rattle.rules.specs.declared.Refusal.TheVariants.{NoLegalPlacement}
+use Rattle.buffers.specs.declared.Tables.{Tables}
+use Rattle.buffers.specs.Going.{tables, marks_of, kids, Going, Lost, Tried, can, cannot, AtNode}
 use Rattle.buffers.proofs.Lists.{each_map, each_of, each_at, sum_same}
 use Rattle.buffers.proofs.Relieving.{easing_start}
 use Rattle.buffers.proofs.Kids.{kids_are, kids_has, each_tree, sum_tree, relieved_same}
@@ -47,7 +49,6 @@ module _ (τ : Cell) (eq : τ.cu ≡ τ.cb + τ.D) (pos : 1 ≤ τ.D) {n : Net} 
         few = g.long.few;
         js = kids n (suc i) i;
         chain = g.chains i (omega arith);
-        low = each_of (λ j. 1 ≤ j) (kids n (suc i) i) (λ j a. let k = kids_are n (suc i) i h j a in omega (arith, k.from));
       };
       on_long = g.long.on;
       fresh = fresh_kids;
@@ -215,56 +216,50 @@ module _ {τ : Cell} {n : Net} {L : ℕ → ℕ} {t : Tables} {i : ℕ} (eq : τ
   pub pin_stuck : kind n i ≡ 1 → τ.cu < pin n i → Lost τ n L
   pin_stuck k o = sink_stuck τ eq pos sound L t i g h k o
 
--- ---- of any net that has the columns which the step reads
-pub record Reads (ks ps : List ℕ) (t : Tables) (i : ℕ) : Type 0 where
-  pub in_kinds : i < length ks
-  pub in_pins : i < length ps
+-- ---- what the step reads
+pub record Reads (n : Net) (t : Tables) (i : ℕ) : Type 0 where
+  pub in_kinds : i < length n.kinds
+  pub in_pins : i < length n.pins
   pub in_below : i < length t.below
   pub in_links : i < length t.links
   pub few : i < most_places
 
-module _ {τ : Cell} {ks ps : List ℕ} {t : Tables} {i : ℕ} (eq : τ.cu ≡ τ.cb + τ.D) (pos : 1 ≤ τ.D) where
-  pub reads : (n : Net) (L : ℕ → ℕ) → AtNode τ ks ps t i n L → Reads ks ps t i
-  reads n L a =
+module _ {τ : Cell} {n : Net} {t : Tables} {i : ℕ} (eq : τ.cu ≡ τ.cb + τ.D) (pos : 1 ≤ τ.D) where
+  pub reads : (L : ℕ → ℕ) → AtNode τ n L t i → Reads n t i
+  reads L a =
       let l = a.going.long in
       record {
-        in_kinds = omega (arith, a.within, ap length a.kinds, a.sound.kinds_long);
-        in_pins = omega (arith, a.within, ap length a.pins, a.sound.pins_long);
+        in_kinds = omega (arith, a.within, a.sound.kinds_long);
+        in_pins = omega (arith, a.within, a.sound.pins_long);
         in_below = omega (arith, a.within, l.enough, l.below);
         in_links = omega (arith, a.within, l.enough, l.links);
         few = omega (arith, a.within, a.sound.few);
       }
 
-  pub loaded : (n : Net) (L : ℕ → ℕ) → AtNode τ ks ps t i n L → Loaded τ t.links t.tops t.on (get_or t.links i 0) (get_or t.below i 0)
-  loaded n L a = going_loaded τ eq pos a.sound L t i a.going a.within
+  pub loaded : (L : ℕ → ℕ) → AtNode τ n L t i → Loaded τ t.links t.tops t.on (get_or t.links i 0) (get_or t.below i 0)
+  loaded L a = going_loaded τ eq pos a.sound L t i a.going a.within
 
-  own_kind : {n : Net} {L : ℕ → ℕ} → AtNode τ ks ps t i n L → kind n i ≡ get_or ks i 0
-  own_kind a = ap (λ (l : List ℕ). get_or l i 0) a.kinds
+  module _ (k : kind n i ≡ 1) where
+    pub sink_over : (u : Tables) → τ.cu < pin n i → (L : ℕ → ℕ) → AtNode τ n L t i → Tried τ n L u (suc i) i (Err NoLegalPlacement)
+    sink_over u o L a = cannot (pin_stuck eq pos a.sound a.within a.going k o)
 
-  own_pin : {n : Net} {L : ℕ → ℕ} → AtNode τ ks ps t i n L → pin n i ≡ get_or ps i 0
-  own_pin a = ap (λ (l : List ℕ). get_or l i 0) a.pins
+    pub sink_in : pin n i ≤ τ.cu → (L : ℕ → ℕ) → AtNode τ n L t i → Tried τ n L (tables (set t.below i (pin n i)) t.tops t.on t.links) (suc i) i (Ok tt)
+    sink_in l L a = can (pin_within eq pos a.sound a.within a.going k l)
 
-  module _ (k : get_or ks i 0 ≡ 1) where
-    pub sink_over : (u : Tables) → τ.cu < get_or ps i 0 → (n : Net) (L : ℕ → ℕ) → AtNode τ ks ps t i n L → Tried τ n L u (suc i) i false
-    sink_over u o n L a = cannot (pin_stuck eq pos a.sound a.within a.going (own_kind a ∙ k) (omega (arith, own_pin a)))
-
-    pub sink_in : get_or ps i 0 ≤ τ.cu → (n : Net) (L : ℕ → ℕ) → AtNode τ ks ps t i n L → Tried τ n L (tables (set t.below i (get_or ps i 0)) t.tops t.on t.links) (suc i) i true
-    sink_in l n L a =
-        can (subst (λ (x : ℕ). Going τ n L (tables (set t.below i x) t.tops t.on t.links) (suc i) i) (own_pin a) (pin_within eq pos a.sound a.within a.going (own_kind a ∙ k) (omega (arith, own_pin a))))
-
-  branch : (get_or ks i 0 ≡ 1 → ⊥) → {n : Net} {L : ℕ → ℕ} → AtNode τ ks ps t i n L → kind n i ≡ 0
-  branch k {n} a = elim (ℕ_discrete (kind n i) 1) [ yes q ↦ absurd (k (sym (own_kind a) ∙ q)) | no ne ↦ (omega (arith, a.sound.kind_most i)) ]
+  branch : (kind n i ≡ 1 → ⊥) → {L : ℕ → ℕ} → AtNode τ n L t i → kind n i ≡ 0
+  branch k a = omega (arith, k, a.sound.kind_most i)
 
   -- what hangs there fits as it is
-  pub node_fits_lem : (get_or ks i 0 ≡ 1 → ⊥) → get_or t.below i 0 ≤ τ.cu → (n : Net) (L : ℕ → ℕ) → AtNode τ ks ps t i n L → Tried τ n L t (suc i) i true
-  node_fits_lem k l n L a =
+  pub node_fits : (kind n i ≡ 1 → ⊥) → get_or t.below i 0 ≤ τ.cu → (L : ℕ → ℕ) → AtNode τ n L t i → Tried τ n L t (suc i) i (Ok tt)
+  node_fits k l L a =
       can (subst (λ (b : List ℕ). Going τ n L (tables b t.tops t.on t.links) (suc i) i) (set-get_or t.below i 0)
       (eased_within eq pos a.sound a.within a.going t.tops t.on (get_or t.below i 0) (branch k a)
       (record { easing = easing_start τ eq t.tops t.on (kids n (suc i) i) (get_or t.below i 0) (fresh_kids τ eq pos a.sound L t i a.going a.within); ended = within l }) l))
 
-  module _ (k : get_or ks i 0 ≡ 1 → ⊥) (tops on : List ℕ) (load : ℕ) (e : (js : List ℕ) → Chain (length t.tops) t.links (get_or t.links i 0) js → Eased τ t.tops t.on tops on js load) where
-    pub node_over : (u : Tables) → τ.cu < load → (n : Net) (L : ℕ → ℕ) → AtNode τ ks ps t i n L → Tried τ n L u (suc i) i false
-    node_over u o n L a = cannot (eased_stuck eq pos a.sound a.within a.going tops on load (branch k a) (e (kids n (suc i) i) (a.going.chains i (omega arith))) o)
+  -- or once its wires are eased
+  module _ (k : kind n i ≡ 1 → ⊥) (u : Tables) (load : ℕ) (e : (js : List ℕ) → Chain (length t.tops) t.links (get_or t.links i 0) js → Eased τ t.tops t.on u.tops u.on js load) where
+    pub node_over : τ.cu < load → (L : ℕ → ℕ) → AtNode τ n L t i → Tried τ n L u (suc i) i (Err NoLegalPlacement)
+    node_over o L a = cannot (eased_stuck eq pos a.sound a.within a.going u.tops u.on load (branch k a) (e (kids n (suc i) i) (a.going.chains i (omega arith))) o)
 
-    pub node_in : load ≤ τ.cu → (n : Net) (L : ℕ → ℕ) → AtNode τ ks ps t i n L → Tried τ n L (tables (set t.below i load) tops on t.links) (suc i) i true
-    node_in l n L a = can (eased_within eq pos a.sound a.within a.going tops on load (branch k a) (e (kids n (suc i) i) (a.going.chains i (omega arith))) l)
+    pub node_in : (u.below ≡ t.below) × (u.links ≡ t.links) → load ≤ τ.cu → (L : ℕ → ℕ) → AtNode τ n L t i → Tried τ n L (tables (set u.below i load) u.tops u.on u.links) (suc i) i (Ok tt)
+    node_in same l L a = rw (same.0, same.1) (can (eased_within eq pos a.sound a.within a.going u.tops u.on load (branch k a) (e (kids n (suc i) i) (a.going.chains i (omega arith))) l))

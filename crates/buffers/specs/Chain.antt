@@ -1,6 +1,6 @@
 -- The wires under a point as a chain in a table of links: from the point to its lowest wire, from each wire to the next one up in number, and then to a number that
 -- no wire has. A node's own link serves both: until the node has its load it leads to the node's wires, and then to the next wire beside its own.
-use Rattle.std.specs.Prelude.{ℕ, ◌+◌, ◌≤◌, ◌<◌, ◌≡◌, List, [], ◌∷◌, length, get_or}
+use Rattle.std.specs.Prelude.{ℕ, ◌+◌, ◌≤◌, ◌<◌, ◌≡◌, List, [], ◌∷◌, Option, Some, None, length, get_or}
 use Rattle.rules.specs.Figures.{most_places}
 use Rattle.rules.specs.Tree.{Hanging, none, sink, branch}
 use Rattle.rules.specs.Legal.{Each}
@@ -24,15 +24,14 @@ pub data Among (j : ℕ) : List ℕ → Type 0 where
   here : {js : List ℕ} → Among j (j ∷ js)
   there : {i : ℕ} {js : List ℕ} → Among j js → Among j (i ∷ js)
 
--- the heaviest of js that is heavier than the pin, or 0
-pub data Heaviest (tops : List ℕ) (pin : ℕ) (js : List ℕ) (r : ℕ) : Type 0 where
-  no_more : r ≡ 0 → Each (λ i. get_or tops i 0 ≤ pin) js → Heaviest tops pin js r
-  is_at : Among r js → pin < get_or tops r 0 → Each (λ i. get_or tops i 0 ≤ get_or tops r 0) js → Heaviest tops pin js r
+-- the heaviest of js that is heavier than the pin
+pub data Heaviest (tops : List ℕ) (pin : ℕ) (js : List ℕ) : Option ℕ → Type 0 where
+  no_more : Each (λ i. get_or tops i 0 ≤ pin) js → Heaviest tops pin js None
+  is_at : {j : ℕ} → Among j js → pin < get_or tops j 0 → Each (λ i. get_or tops i 0 ≤ get_or tops j 0) js → Heaviest tops pin js (Some j)
 
--- a chain of wires from 1 on in the tables
+-- a chain of wires in the tables
 pub record Chained (links tops : List ℕ) (first : ℕ) : Type 0 where
   pub long : length links ≡ length tops
   pub few : length tops ≤ most_places
   pub js : List ℕ
   pub chain : Chain (length tops) links first js
-  pub low : Each (λ j. 1 ≤ j) js

@@ -1,12 +1,15 @@
 -- The tables on the way up: which wires are joined to their parents, and which nodes have their load.
-use Rattle.std.specs.Prelude.{ℕ, suc, ◌-◌, ◌≤◌, ◌<◌, ◌≡◌, Bool, true, false, List, length, get_or}
+use Rattle.std.specs.Prelude.{ℕ, suc, ◌-◌, ◌≤◌, ◌<◌, ◌≡◌, List, Ok, Err, length, get_or}
+use Rattle.rules.specs.declared.Refusal.TheVariants.{NoLegalPlacement}
 use Rattle.rules.specs.Figures.{most_places}
+use Rattle.rules.specs.Judged.{Judged}
 use Rattle.rules.specs.Net.{Net, places, wire}
 use Rattle.rules.specs.Tree.{hanging}
 use Rattle.rules.specs.Legal.{Each}
 use Rattle.rules.specs.Sound.{SoundNet}
 use Rattle.frontier.specs.Cell.{Cell}
 use Rattle.relief.specs.Marks.{Marks, out, Marked, Stuck}
+use Rattle.buffers.specs.declared.Tables.{Tables}
 use Rattle.buffers.specs.Chain.{wires_of, sum_l, Chain}
 
 -- the leads of the wires: each at most one more than the wire's size
@@ -16,13 +19,6 @@ pub record Led (n : Net) (leads : List ℕ) : Type 0 where
 
 abbrev pub leads_in : List ℕ → ℕ → ℕ
 leads_in leads i = get_or leads i 0
-
--- what lies below each node; what each wire hands up; which are topped; the links that chain each node's wires
-pub record Tables : Type 0 where
-  pub below : List ℕ
-  pub tops : List ℕ
-  pub on : List ℕ
-  pub links : List ℕ
 
 abbrev pub tables : List ℕ → List ℕ → List ℕ → List ℕ → Tables
 tables below tops on links = record { below = below; tops = tops; on = on; links = links }
@@ -61,22 +57,18 @@ pub record Lost (τ : Cell) (n : Net) (L : ℕ → ℕ) : Type 0 where
   pub stuck : Stuck τ n L marks v
 
 -- node i has its load, or cannot be brought within the limit
-pub data Tried (τ : Cell) (n : Net) (L : ℕ → ℕ) (t : Tables) (b i : ℕ) : Bool → Type 0 where
-  can : Going τ n L t b i → Tried τ n L t b i true
-  cannot : Lost τ n L → Tried τ n L t b i false
+pub data Tried (τ : Cell) (n : Net) (L : ℕ → ℕ) (t : Tables) (b i : ℕ) : Judged → Type 0 where
+  can : Going τ n L t b i → Tried τ n L t b i (Ok tt)
+  cannot : Lost τ n L → Tried τ n L t b i (Err NoLegalPlacement)
 
--- ---- what one step asks, of any net that has the columns which the step reads
-pub record AtNode (τ : Cell) (ks ps : List ℕ) (t : Tables) (i : ℕ) (n : Net) (L : ℕ → ℕ) : Type 0 where
+-- ---- what one step asks
+pub record AtNode (τ : Cell) (n : Net) (L : ℕ → ℕ) (t : Tables) (i : ℕ) : Type 0 where
   pub sound : SoundNet n
-  pub kinds : n.kinds ≡ ks
-  pub pins : n.pins ≡ ps
   pub within : i < places n
   pub going : Going τ n L t (suc i) (suc i)
 
-pub record AtWire (τ : Cell) (up ws leads : List ℕ) (t : Tables) (i : ℕ) (n : Net) : Type 0 where
+pub record AtWire (τ : Cell) (n : Net) (leads : List ℕ) (t : Tables) (i : ℕ) : Type 0 where
   pub sound : SoundNet n
-  pub parents : n.parents ≡ up
-  pub wires : n.wires ≡ ws
   pub led : Led n leads
   pub above : 1 ≤ i
   pub within : i < places n
