@@ -1,6 +1,5 @@
 -- Records counted one after the other make the tally of all; each is counted once; the status is "0" exactly where every record is legal.
 use Prim.Native.Nat.{ℕ, ◌+◌}
-use native.Mathlib.Nat.{add-zero}
 use native.Mathlib.Omega.{arith}
 use mathlib.Core.Path.{◌≡◌, refl, ap, ◌∙◌}
 use mathlib.Core.Logic.{◌↔◌}
@@ -14,7 +13,7 @@ use Rattle.rules.proofs.Tests.{both_met}
 use Rattle.tally.specs.declared.Found.{Found}
 use Rattle.tally.specs.declared.Found.TheVariants.{Least, Legal, Refused, Unread}
 use Rattle.tally.specs.declared.Tally.{Tally}
-use Rattle.tally.specs.Tallied.{if_least, if_legal, if_refused, if_unread, sum_of, tally_of, counted, Sums, Counts, status_of, AllLegal}
+use Rattle.tally.specs.Tallied.{if_least, if_legal, if_refused, if_unread, sum_of, tally_of, counted, Sums, status_of, AllLegal}
 
 -- ---- one record more
 
@@ -51,27 +50,7 @@ unfolding sum_of
 tally_sums [] = refl
 tally_sums (f ∷ fs) = omega (arith, once f, tally_sums fs)
 
--- a record found so
-module _ (t : Tally) {f : Found} (h : Sums t) where
-  pub counts_least : f ≡ Least → Counts t f (record { records = t.records + 1; least = t.least + 1; legal = t.legal; refused = t.refused; unread = t.unread })
-  counts_least e = record { is = rw e (simp add-zero); sums = omega arith; records = refl }
-
-  pub counts_legal : f ≡ Legal → Counts t f (record { records = t.records + 1; least = t.least; legal = t.legal + 1; refused = t.refused; unread = t.unread })
-  counts_legal e = record { is = rw e (simp add-zero); sums = omega arith; records = refl }
-
-  pub counts_refused : f ≡ Refused → Counts t f (record { records = t.records + 1; least = t.least; legal = t.legal; refused = t.refused + 1; unread = t.unread })
-  counts_refused e = record { is = rw e (simp add-zero); sums = omega arith; records = refl }
-
-  pub counts_unread : f ≡ Unread → Counts t f (record { records = t.records + 1; least = t.least; legal = t.legal; refused = t.refused; unread = t.unread + 1 })
-  counts_unread e = record { is = rw e (simp add-zero); sums = omega arith; records = refl }
-
 -- ---- the status
-
-pub all_answered : (t : Tally) → both (eqb t.refused 0) (eqb t.unread 0) ≡ true → 48 ≡ status_of t
-all_answered t e = rw e
-
-pub some_refused : (t : Tally) → both (eqb t.refused 0) (eqb t.unread 0) ≡ false → 49 ≡ status_of t
-some_refused t e = rw e
 
 none_refused : (fs : List Found) → sum_of if_refused fs ≡ 0 → sum_of if_unread fs ≡ 0 → AllLegal fs
 unfolding sum_of

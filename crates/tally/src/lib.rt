@@ -2,8 +2,10 @@
 #![tactic(auto)]
 
 ghost use Rattle.std.specs.Prelude.{◌≡◌, ◌≤◌, ◌<◌, length};
-ghost use Rattle.reply.specs.Said.{Shows};
+ghost use Rattle.reply.specs.Said.{Shows, byte_of};
 ghost use Rattle.tally.specs.Tallied.{Sums, Counts, tally_line, most_tally, status_of};
+
+use reply::Status;
 
 // What was found of a record: a legal placement with the least count, a legal one with more entries, a refusal, or a file that could not be read.
 #[derive(Clone, Copy)]
@@ -15,7 +17,7 @@ pub enum Found {
 }
 
 // How many records there were, and how many of each.
-#[derive(Clone, Copy)]
+#[derive(Clone, Copy, Default)]
 pub struct Tally {
     pub records: u64,
     pub least: u64,
@@ -24,63 +26,43 @@ pub struct Tally {
     pub unread: u64,
 }
 
-// One record more.
-pub fn count(t: Tally, found: Found) -> Tally
-    requires { Sums t × (t.records < 18446744073709551615) }
-    ensures { Counts t found result }
-{
-    let records = t.records + 1;
-    match found {
-        Found::Least => Tally {
-            records: records,
-            least: t.least + 1,
-            legal: t.legal,
-            refused: t.refused,
-            unread: t.unread,
-        },
-        Found::Legal => Tally {
-            records: records,
-            least: t.least,
-            legal: t.legal + 1,
-            refused: t.refused,
-            unread: t.unread,
-        },
-        Found::Refused => Tally {
-            records: records,
-            least: t.least,
-            legal: t.legal,
-            refused: t.refused + 1,
-            unread: t.unread,
-        },
-        Found::Unread => Tally {
-            records: records,
-            least: t.least,
-            legal: t.legal,
-            refused: t.refused,
-            unread: t.unread + 1,
-        },
+impl Tally {
+    // One record more.
+    pub fn count(&mut self, found: Found)
+        requires { Sums self.old × (self.old.records < 18446744073709551615) }
+        ensures { Counts self.old found self.new }
+    {
+        self.records += 1;
+        match found {
+            Found::Least => self.least += 1,
+            Found::Legal => self.legal += 1,
+            Found::Refused => self.refused += 1,
+            Found::Unread => self.unread += 1,
+        }
     }
-}
 
-// `records R least A legal B refused C unread D`.
-pub fn tally_line(t: Tally, out: &mut [u8]) -> usize
-    requires { most_tally ≤ length out.old }
-    ensures { Shows (tally_line t) out.new result }
-{
-    let first = answer::say(out, 0, b"records ", t.records);
-    let second = answer::say(out, first, b" least ", t.least);
-    let third = answer::say(out, second, b" legal ", t.legal);
-    let fourth = answer::say(out, third, b" refused ", t.refused);
-    let fifth = answer::say(out, fourth, b" unread ", t.unread);
-    answer::put(out, fifth, b"\n")
-}
-
-// The character that is written to the launcher: `0` where every record is legal, else `1`.
-pub fn status(t: Tally) -> u8
-    ensures { result ≡ status_of t }
-{
-    if (t.refused == 0) & (t.unread == 0) {
-        return reply::ANSWERED;
+    // `records R least A legal B refused C unread D`.
+    #[tactic(auto, using(answer::proofs::Digits::said_in_64))]
+    pub fn line(self, out: &mut [u8]) -> usize
+        requires { most_tally ≤ length out.old }
+        ensures { Shows (tally_line self) out.new result }
+    {
+        let mut at = answer::say(out, 0, b"records ", self.records);
+        at = answer::say(out, at, b" least ", self.least);
+        at = answer::say(out, at, b" legal ", self.legal);
+        at = answer::say(out, at, b" refused ", self.refused);
+        at = answer::say(out, at, b" unread ", self.unread);
+        answer::put(out, at, b"\n")
     }
-    reply::REFUSED
+
+    // Answered where every record is legal.
+    pub fn status(self) -> Status
+        ensures { byte_of result ≡ status_of self }
+    {
+        if self.refused == 0 && self.unread == 0 {
+            Status::Answered
+        } else {
+            Status::Refused
+        }
+    }
 }
