@@ -3,8 +3,7 @@ use Prim.Native.Nat.{ℕ}
 use mathlib.Core.Path.{◌≡◌, sym, ◌∙◌}
 use mathlib.Core.List.{List}
 use Rattle.rules.specs.Net.{Net}
-use Rattle.listing.specs.declared.Listed.{Listed}
-use Rattle.listing.specs.Listing.{ListedIs}
+use Rattle.listing.specs.Listing.{Listed, ListedIs}
 
 pub list_drives_determined : (n : Net) (vs os before : List ℕ) {r r' : Listed} {after after' : List ℕ}
     → ListedIs n vs os before r after → ListedIs n vs os before r' after' → (r ≡ r') × (after ≡ after')

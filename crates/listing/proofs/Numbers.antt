@@ -1,4 +1,5 @@
 -- The numbers of the list of loads: it answers k exactly where the cases below say so, and so no other number.
+use Rattle.std.specs.Prelude.{Ok, Err}
 use Prim.Native.Nat.{ℕ, ◌≤◌, ◌<◌}
 use mathlib.Core.Path.{◌≡◌, refl, sym, ap, ◌∙◌}
 use mathlib.Core.Logic.{◌↔◌}
@@ -7,8 +8,7 @@ use native.Mathlib.Omega.{arith}
 use lib.Dec.{leb}
 use lib.ListN.{length}
 use borrow.Author.Tests.{le-leb, leb-true}
-use Rattle.rules.specs.declared.Judged.{Judged}
-use Rattle.rules.specs.declared.Judged.TheVariants.{Sound, Refused}
+use Rattle.rules.specs.Judged.{Judged}
 use Rattle.rules.specs.declared.Refusal.TheVariants.{WrongColumns, NoRoom}
 use Rattle.rules.specs.Refusal.{judged_number}
 use Rattle.rules.specs.Net.{Net}
@@ -21,16 +21,15 @@ use Rattle.rules.proofs.Judging.{unless_true, unless_only, then_assoc, Tests, Te
 use Rattle.rules.proofs.LegalJudged.{order_tested}
 use Rattle.rules.proofs.Numbers.{PlacementFits, columns_tested, NetRefuses}
 use Rattle.standing.specs.Stands.{stood}
-use Rattle.listing.specs.declared.Listed.{Listed}
-use Rattle.listing.specs.Listing.{list_judged, listed_of, listed_number, ListedIs}
+use Rattle.listing.specs.Listing.{Listed, list_judged, listed_of, listed_number, ListedIs}
 
 -- what the number k says of two columns on a net, and of the room for their loads
 pub data ListGives (n : Net) (vs os : List ℕ) (room k : ℕ) : Type 0 where
   of_net : NetRefuses n k → ListGives n vs os room k
-  wrong_columns : k ≡ 7 → judged n ≡ Sound → (PlacementFits vs os → ⊥) → ListGives n vs os room k
-  misplaced : k ≡ 10 → judged n ≡ Sound → PlacementFits vs os → (InOrder n start (entries vs os) → ⊥) → ListGives n vs os room k
-  no_room : k ≡ 9 → judged n ≡ Sound → PlacementFits vs os → InOrder n start (entries vs os) → room < length vs → ListGives n vs os room k
-  listed : k ≡ 0 → judged n ≡ Sound → PlacementFits vs os → InOrder n start (entries vs os) → length vs ≤ room → ListGives n vs os room k
+  wrong_columns : k ≡ 7 → judged n ≡ Ok tt → (PlacementFits vs os → ⊥) → ListGives n vs os room k
+  misplaced : k ≡ 10 → judged n ≡ Ok tt → PlacementFits vs os → (InOrder n start (entries vs os) → ⊥) → ListGives n vs os room k
+  no_room : k ≡ 9 → judged n ≡ Ok tt → PlacementFits vs os → InOrder n start (entries vs os) → room < length vs → ListGives n vs os room k
+  listed : k ≡ 0 → judged n ≡ Ok tt → PlacementFits vs os → InOrder n start (entries vs os) → length vs ≤ room → ListGives n vs os room k
 
 room_tested : (vs : List ℕ) (room : ℕ) → Tests (unless (leb (length vs) room) (NoRoom (length vs))) (length vs ≤ room) 9
 room_tested vs room = record {
@@ -63,21 +62,21 @@ module _ (n : Net) (vs os : List ℕ) (room : ℕ) where
   unfolding third second
   given = by_net (judged n) refl
     where
-      by_room : judged n ≡ Sound → PlacementFits vs os → InOrder n start (entries vs os) → Tested last (length vs ≤ room) 9 → ListGives n vs os room (judged_number last)
+      by_room : judged n ≡ Ok tt → PlacementFits vs os → InOrder n start (entries vs os) → Tested last (length vs ≤ room) 9 → ListGives n vs os room (judged_number last)
       by_room s fit o (held e l) = rw e (listed refl s fit o l)
       by_room s fit o (failed e c not) = rw e (no_room c s fit o (omega arith))
 
-      by_order : judged n ≡ Sound → PlacementFits vs os → Tested (placed_from n start 0 (entries vs os)) (InOrder n start (entries vs os)) 10 → ListGives n vs os room (judged_number third)
+      by_order : judged n ≡ Ok tt → PlacementFits vs os → Tested (placed_from n start 0 (entries vs os)) (InOrder n start (entries vs os)) 10 → ListGives n vs os room (judged_number third)
       by_order s fit (held e o) = rw e (by_room s fit o (tested room_test))
       by_order s fit (failed e c not) = rw e (misplaced c s fit not)
 
-      by_columns : judged n ≡ Sound → Tested (unless (placement_fits vs os) WrongColumns) (PlacementFits vs os) 7 → ListGives n vs os room (judged_number second)
+      by_columns : judged n ≡ Ok tt → Tested (unless (placement_fits vs os) WrongColumns) (PlacementFits vs os) 7 → ListGives n vs os room (judged_number second)
       by_columns s (held e fit) = rw e (by_order s fit (tested (order_tested n (entries vs os))))
       by_columns s (failed e c not) = rw e (wrong_columns c s not)
 
       by_net : (j : Judged) → judged n ≡ j → ListGives n vs os room (judged_number (then_judge j second))
-      by_net Sound e = by_columns e (tested (columns_tested vs os))
-      by_net (Refused x) e = of_net (record { refusal = x; refused = e; number = refl })
+      by_net (Ok _) e = by_columns e (tested (columns_tested vs os))
+      by_net (Err x) e = of_net (record { refusal = x; refused = e; number = refl })
 
   alone : (k : ℕ) → ListGives n vs os room k → judged_number (then_judge (judged n) second) ≡ k
   unfolding third second
@@ -94,8 +93,8 @@ module _ (n : Net) (vs os : List ℕ) (room : ℕ) where
   answer_number = by (list_judged n vs os room)
     where
       by : (j : Judged) → listed_number (listed_of j (length vs) (source_drives n (offsets_on (entries vs os)))) ≡ judged_number j
-      by Sound = refl
-      by (Refused x) = refl
+      by (Ok _) = refl
+      by (Err x) = refl
 
 pub list_drives_numbers : (n : Net) (vs os before : List ℕ) {r : Listed} {after : List ℕ} → ListedIs n vs os before r after → (k : ℕ) → (listed_number r ≡ k) ↔ ListGives n vs os (length before) k
 list_drives_numbers n vs os before {r} e k =

@@ -1,10 +1,6 @@
 -- `listing::list_loads` meets its contract: the tables are made, and the loads told from them.
-use Rattle.load.proofs.Clear.{new_clear}
 use Rattle.load.proofs.Wire.{source_asked}
 use Rattle.listing.proofs.list_loads.Goals as goal
-
-pub make_tables-requires : goal.make_tables-requires
-make_tables-requires c = record { placed = c.requires.0; clear = (new_clear, new_clear, new_clear, new_clear) }
 
 pub load_below-requires : goal.load_below-requires
 load_below-requires c = record { net = _; offs = _; asks = source_asked (record { placed = c.requires.0; tables = c.make_tables.ensures }) }
