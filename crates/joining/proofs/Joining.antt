@@ -1,13 +1,15 @@
 -- Two lists that join to one that rises: the entry that may stand before the other list's first is the first of the whole, and the rest joins to the rest of it.
-use Prim.Native.Nat.{ℕ, zero, suc, ◌+◌, ◌-◌, ◌≤◌, ◌<◌}
+use Prim.Native.Nat.{ℕ, zero, suc, ◌+◌, ◌≤◌, ◌<◌}
 use native.Mathlib.Numerals.{add-one}
 use native.Mathlib.Omega.{arith}
 use mathlib.Core.Path.{◌≡◌, refl, sym, ap, subst, ◌∙◌}
 use mathlib.Core.List.{List, [], ◌∷◌, ◌++◌, map, map-append, append_assoc, append-nil}
 use lib.ListN.{length, get_or, set, drop, length-append, length-set, length-drop, drop_of_length-le}
 use lib.Seq.{sets}
+use mathlib.Core.Bool.{Bool, true, false}
+use Rattle.rules.proofs.Tests.{never}
 use Rattle.rules.specs.declared.Entry.{Entry}
-use Rattle.rules.specs.Load.{entries}
+use Rattle.rules.specs.Load.{entries, column_entry}
 use Rattle.rules.specs.Legal.{After, higher, further, start}
 use Rattle.rules.specs.Complete.{Joins, end, given, added}
 use Rattle.rules.proofs.Order.{after_after}
@@ -92,26 +94,25 @@ nothing_first e f = absurd (let z : ◌≡◌ {A = ℕ} 0 1 = cc in omega arith)
 
 -- i given and j added ones have been taken
 module _ {gw go aw ao : List ℕ} {i j : ℕ} (l : Left gw go aw ao i j) where
-  pub none_given : i ≡ length gw → Next (drop i (entries gw go)) (drop j (entries aw ao)) 0
+  pub none_given : i ≡ length gw → Next (drop i (entries gw go)) (drop j (entries aw ao)) false
   none_given h = Added-next _ _ (taken aw ao l.even.added j (omega arith)) (λ z es e. nothing_first (all_taken gw go l.even.given i (omega arith)) e) refl
 
-  pub none_added : j ≡ length aw → Next (drop i (entries gw go)) (drop j (entries aw ao)) 1
+  pub none_added : j ≡ length aw → Next (drop i (entries gw go)) (drop j (entries aw ao)) true
   none_added h = given-next _ _ (taken gw go l.even.given i (omega arith)) (λ z es e. nothing_first (all_taken aw ao l.even.added j (omega arith)) e) refl
 
   module _ (some : i < length gw) (more : j < length aw) where
-    pub given_first : After (at (get_or gw i 0) (get_or go i 0)) (at (get_or aw j 0) (get_or ao j 0)) → Next (drop i (entries gw go)) (drop j (entries aw ao)) 1
-    given_first h = given-next _ _ (taken gw go l.even.given i some) (λ z es e. rw (next_is aw ao l.even.added j z es e).0 h) refl
+    -- by the order of the first two
+    pub by_first : (r : Bool) → (r ≡ true → After (column_entry gw go i) (column_entry aw ao j)) × (r ≡ false → After (column_entry aw ao j) (column_entry gw go i)) → Next (drop i (entries gw go)) (drop j (entries aw ao)) r
+    by_first true h = given-next _ _ (taken gw go l.even.given i some) (λ z es e. rw (next_is aw ao l.even.added j z es e).0 (h.0 refl)) refl
+    by_first false h = Added-next _ _ (taken aw ao l.even.added j more) (λ z es e. rw (next_is gw go l.even.given i z es e).0 (h.1 refl)) refl
 
-    pub added_first : After (at (get_or aw j 0) (get_or ao j 0)) (at (get_or gw i 0) (get_or go i 0)) → Next (drop i (entries gw go)) (drop j (entries aw ao)) 0
-    added_first h = Added-next _ _ (taken aw ao l.even.added j more) (λ z es e. rw (next_is gw go l.even.given i z es e).0 h) refl
+  pub given_left : Next (drop i (entries gw go)) (drop j (entries aw ao)) true → i < length gw
+  given_left (given-next x g' e p q) = one_left gw go l.even.given i x g' e
+  given_left (Added-next y a' e p q) = never q
 
-  pub given_left : {r : ℕ} → Next (drop i (entries gw go)) (drop j (entries aw ao)) r → r ≡ 1 → i < length gw
-  given_left (given-next x g' e p q) n = one_left gw go l.even.given i x g' e
-  given_left (Added-next y a' e p q) n = absurd (omega arith)
-
-  pub added_left : {r : ℕ} → Next (drop i (entries gw go)) (drop j (entries aw ao)) r → (r ≡ 1 → ⊥) → j < length aw
-  added_left (given-next x g' e p q) n = absurd (n q)
-  added_left (Added-next y a' e p q) n = one_left aw ao l.even.added j y a' e
+  pub added_left : Next (drop i (entries gw go)) (drop j (entries aw ao)) false → j < length aw
+  added_left (given-next x g' e p q) = never (sym q)
+  added_left (Added-next y a' e p q) = one_left aw ao l.even.added j y a' e
 
 -- ---- what is laid
 
@@ -135,39 +136,36 @@ module _ {g a whole : List Entry} {i j : ℕ} {ws₀ os₀ ws os : List ℕ} (s 
   }
 
 module _ {gw go aw ao : List ℕ} {i j : ℕ} (l : Left gw go aw ao i j) (ws os : List ℕ) where
-  pub lay_given : {r : ℕ} → Next (drop i (entries gw go)) (drop j (entries aw ao)) r → r ≡ 1 → OneMore gw go aw ao i j ws os (set ws (i + j) (get_or gw i 0)) (set os (i + j) (get_or go i 0)) 1
-  lay_given (Added-next y a' e p q) n = absurd (omega arith)
-  lay_given (given-next x g' e p q) n =
+  pub lay_given : Next (drop i (entries gw go)) (drop j (entries aw ao)) true → OneMore gw go aw ao i j ws os (set ws (i + j) (get_or gw i 0)) (set os (i + j) (get_or go i 0)) true
+  lay_given (Added-next y a' e p q) = never q
+  lay_given (given-next x g' e p q) =
       let (is, after) = next_is gw go l.even.given i x g' e in
       let t = one_left gw go l.even.given i x g' e in
       record {
         given = omega arith;
         added = omega (arith, l.added);
-        most = omega arith;
         wires = length-set ws (i + j) (get_or gw i 0);
         offsets = length-set os (i + j) (get_or go i 0);
         lays = λ whole ws₀ os₀ s.
             let f = first s.last (rw e at s.left) p s.rises in
-            let z : j + (1 - 1) ≡ j = omega arith in
+            let z : j + 0 ≡ j = omega arith in
             rw z (rw is at (lay s x (i + 1) j f.others (omega arith) f.is (subst (λ (z : List Entry). Joins z (drop j (entries aw ao)) f.others) after f.joins) f.rises));
       }
 
-  pub lay_added : {r : ℕ} → Next (drop i (entries gw go)) (drop j (entries aw ao)) r → (r ≡ 1 → ⊥) → OneMore gw go aw ao i j ws os (set ws (i + j) (get_or aw j 0)) (set os (i + j) (get_or ao j 0)) 0
-  lay_added (given-next x g' e p q) n = absurd (n q)
-  lay_added (Added-next y a' e p q) n =
+  pub lay_added : Next (drop i (entries gw go)) (drop j (entries aw ao)) false → OneMore gw go aw ao i j ws os (set ws (i + j) (get_or aw j 0)) (set os (i + j) (get_or ao j 0)) false
+  lay_added (given-next x g' e p q) = never (sym q)
+  lay_added (Added-next y a' e p q) =
       let (is, after) = next_is aw ao l.even.added j y a' e in
       let t = one_left aw ao l.even.added j y a' e in
       record {
         given = omega (arith, l.given);
         added = omega arith;
-        most = omega arith;
         wires = length-set ws (i + j) (get_or aw j 0);
         offsets = length-set os (i + j) (get_or ao j 0);
         lays = λ whole ws₀ os₀ s.
             let f = first s.last (turned (rw e at s.left)) p s.rises in
             let u : i + 0 ≡ i = omega arith in
-            let v : j + (1 - 0) ≡ j + 1 = omega arith in
-            rw (u, v) (rw is at (lay s y i (j + 1) f.others (omega arith) f.is (turned (subst (λ (z : List Entry). Joins z (drop i (entries gw go)) f.others) after f.joins)) f.rises));
+            rw u (rw is at (lay s y i (j + 1) f.others (omega arith) f.is (turned (subst (λ (z : List Entry). Joins z (drop i (entries gw go)) f.others) after f.joins)) f.rises));
       }
 
 -- before the first, and after the last

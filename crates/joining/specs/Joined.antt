@@ -1,6 +1,7 @@
 -- Given and added entries in one list, in order: which comes next, and what stands in two columns on the way.
-use Rattle.std.specs.Prelude.{ℕ, ◌+◌, ◌-◌, ◌≤◌, ◌<◌, ◌≡◌, List, [], ◌∷◌, ◌++◌, length, drop}
+use Rattle.std.specs.Prelude.{ℕ, ◌+◌, ◌≤◌, ◌<◌, ◌≡◌, List, [], ◌∷◌, ◌++◌, length, drop, Bool, true, false}
 use Rattle.rules.specs.declared.Entry.{Entry}
+use Rattle.rules.specs.Choose.{pick}
 use Rattle.rules.specs.Load.{entries}
 use Rattle.rules.specs.Legal.{After, start}
 use Rattle.rules.specs.Complete.{Joins}
@@ -23,10 +24,10 @@ pub record Left (gw go aw ao : List ℕ) (i j : ℕ) : Type 0 where
   pub added : j ≤ length aw
   pub some : i + j < length gw + length aw
 
--- the first of either list is next, and may stand before the other's: 1 where it is the given one, else 0
-pub data Next (g a : List Entry) (r : ℕ) : Type 0 where
-  given : (x : Entry) (g' : List Entry) → g ≡ x ∷ g' → ((y : Entry) (a' : List Entry) → a ≡ y ∷ a' → After x y) → r ≡ 1 → Next g a r
-  added : (y : Entry) (a' : List Entry) → a ≡ y ∷ a' → ((x : Entry) (g' : List Entry) → g ≡ x ∷ g' → After y x) → r ≡ 0 → Next g a r
+-- the first of either list is next, and may stand before the other's; r says whether it is the given one
+pub data Next (g a : List Entry) (r : Bool) : Type 0 where
+  given : (x : Entry) (g' : List Entry) → g ≡ x ∷ g' → ((y : Entry) (a' : List Entry) → a ≡ y ∷ a' → After x y) → r ≡ true → Next g a r
+  added : (y : Entry) (a' : List Entry) → a ≡ y ∷ a' → ((x : Entry) (g' : List Entry) → g ≡ x ∷ g' → After y x) → r ≡ false → Next g a r
 
 -- i given and j added entries of a whole stand in the columns; the others make the rest of it
 pub record Laying (g a whole : List Entry) (i j : ℕ) (ws os ws' os' : List ℕ) : Type 0 where
@@ -39,14 +40,14 @@ pub record Laying (g a whole : List Entry) (i j : ℕ) (ws os ws' os' : List ℕ
   pub rises : Rising last rest
   pub holds : Holds done ws os ws' os'
 
--- one more stands there: a given one where r is 1, an added one where it is 0
-pub record OneMore (gw go aw ao : List ℕ) (i j : ℕ) (ws os ws' os' : List ℕ) (r : ℕ) : Type 0 where
-  pub given : i + r ≤ length gw
-  pub added : j + (1 - r) ≤ length aw
-  pub most : r ≤ 1
+-- one more stands there; r says whether it is a given one
+pub record OneMore (gw go aw ao : List ℕ) (i j : ℕ) (ws os ws' os' : List ℕ) (r : Bool) : Type 0 where
+  pub given : i + pick r 1 0 ≤ length gw
+  pub added : j + pick r 0 1 ≤ length aw
   pub wires : length ws' ≡ length ws
   pub offsets : length os' ≡ length os
-  pub lays : (whole : List Entry) (ws₀ os₀ : List ℕ) → Laying (entries gw go) (entries aw ao) whole i j ws₀ os₀ ws os → Laying (entries gw go) (entries aw ao) whole (i + r) (j + (1 - r)) ws₀ os₀ ws' os'
+  pub lays : (whole : List Entry) (ws₀ os₀ : List ℕ) → Laying (entries gw go) (entries aw ao) whole i j ws₀ os₀ ws os
+      → Laying (entries gw go) (entries aw ao) whole (i + pick r 1 0) (j + pick r 0 1) ws₀ os₀ ws' os'
 
 -- every whole of them that rises stands in the columns; there is one at most
 abbrev pub JoinedIn : List ℕ → List ℕ → List ℕ → List ℕ → List ℕ → List ℕ → List ℕ → List ℕ → Type 0

@@ -5,82 +5,58 @@ ghost use Rattle.std.specs.Prelude.{◌+◌, ◌≤◌, ◌<◌, length, drop};
 ghost use Rattle.rules.specs.Load.{entries};
 ghost use Rattle.joining.specs.Joined.{Even, Left, Next, OneMore, JoinedIn};
 
-// 1 where the next is a given one, else 0: i given and j added ones have been taken.
-fn next_given(
-    given: &[u16],
-    offsets: &[u32],
-    added: &[u16],
-    others: &[u32],
-    i: usize,
-    j: usize,
-) -> usize
-    requires { Left given.now offsets.now added.now others.now i j }
-    ensures { Next (drop i (entries given.now offsets.now)) (drop j (entries added.now others.now)) result }
+use rules::LentPlacement;
+
+// Whether the next is a given one: i given and j added ones have been taken.
+fn given_is_next(given: &LentPlacement, added: &LentPlacement, i: usize, j: usize) -> bool
+    requires { Left given.now.wires.now given.now.offsets.now added.now.wires.now added.now.offsets.now i j }
+    ensures { Next (drop i (entries given.now.wires.now given.now.offsets.now)) (drop j (entries added.now.wires.now added.now.offsets.now)) result }
 {
-    if i == given.len() {
-        return 0;
+    if i == given.wires.len() {
+        return false;
     }
-    if j == added.len() {
-        return 1;
+    if j == added.wires.len() {
+        return true;
     }
-    let wire = given[i];
-    let other = added[j];
-    if wire < other {
-        return 1;
-    }
-    if other < wire {
-        return 0;
-    }
-    if others[j] < offsets[i] {
-        return 0;
-    }
-    1
+    let first = given.entry(i);
+    let other = added.entry(j);
+    first <= other
 }
 
-// Lays the next one, and answers 1 where it is a given one, else 0.
+// Lays the next one, and answers whether it is a given one.
 fn lay_next(
-    given: &[u16],
-    offsets: &[u32],
-    added: &[u16],
-    others: &[u32],
+    given: &LentPlacement,
+    added: &LentPlacement,
     i: usize,
     j: usize,
     wires: &mut [u16],
     offs: &mut [u32],
-) -> usize
-    requires left { Left given.now offsets.now added.now others.now i j }
+) -> bool
+    requires left { Left given.now.wires.now given.now.offsets.now added.now.wires.now added.now.offsets.now i j }
     requires j_in_bounds { (i + j < length wires.old) × (i + j < length offs.old) }
-    ensures { OneMore given.now offsets.now added.now others.now i j wires.old offs.old wires.new offs.new result }
+    ensures { OneMore given.now.wires.now given.now.offsets.now added.now.wires.now added.now.offsets.now i j wires.old offs.old wires.new offs.new result }
 {
-    if next_given(given, offsets, added, others, i, j) == 1 {
-        wires[i + j] = given[i];
-        offs[i + j] = offsets[i];
-        return 1;
-    }
-    wires[i + j] = added[j];
-    offs[i + j] = others[j];
-    0
+    let is_given = given_is_next(given, added, i, j);
+    let e = if is_given {
+        given.entry(i)
+    } else {
+        added.entry(j)
+    };
+    wires[i + j] = e.wire;
+    offs[i + j] = e.offset;
+    is_given
 }
 
 // Lays given and added entries into two columns, in order.
-pub fn join(
-    given: &[u16],
-    offsets: &[u32],
-    added: &[u16],
-    others: &[u32],
-    wires: &mut [u16],
-    offs: &mut [u32],
-)
-    requires even { Even given.now offsets.now added.now others.now }
-    requires added_in_bounds { (length given.now + length added.now ≤ length wires.old) × (length given.now + length added.now ≤ length offs.old) }
-    ensures { JoinedIn given.now offsets.now added.now others.now wires.old offs.old wires.new offs.new }
+pub fn join(given: &LentPlacement, added: &LentPlacement, wires: &mut [u16], offs: &mut [u32])
+    requires even { Even given.now.wires.now given.now.offsets.now added.now.wires.now added.now.offsets.now }
+    requires added_in_bounds { let n = length given.now.wires.now + length added.now.wires.now in (n ≤ length wires.old) × (n ≤ length offs.old) }
+    ensures { JoinedIn given.now.wires.now given.now.offsets.now added.now.wires.now added.now.offsets.now wires.old offs.old wires.new offs.new }
 {
-    let total = given.len() + added.len();
     let mut i = 0;
-    let mut j = 0;
-    while i + j < total {
-        let taken = lay_next(given, offsets, added, others, i, j, wires, offs);
-        i += taken;
-        j += 1 - taken;
+    for k in 0..given.wires.len() + added.wires.len() {
+        if lay_next(given, added, i, k - i, wires, offs) {
+            i += 1;
+        }
     }
 }

@@ -1,22 +1,17 @@
 -- `lay_next` lays one entry more.
-use native.Mathlib.Omega.{arith}
+use Rattle.std.proofs.Common.{arith}
 use Rattle.joining.proofs.Joining.{given_left, added_left, lay_given, lay_added}
+use Rattle.joining.proofs.lay_next.Goals.{then-is_given, else-is_given}
 use Rattle.joining.proofs.lay_next.Goals as goal
 
-pub bounds-given-i : goal.bounds-given-i
-bounds-given-i c = given_left c.requires.left c.next_given.ensures (omega arith)
+pub entry-e-requires : goal.entry-e-requires
+entry-e-requires c = omega (arith, given_left c.requires.left (rw c.if-is_given.true at c.given_is_next-is_given.ensures), c.requires.left.even.given)
 
-pub bounds-offsets-i : goal.bounds-offsets-i
-bounds-offsets-i c = omega (arith, given_left c.requires.left c.next_given.ensures (omega arith), c.requires.left.even.given)
-
-pub returns-then-next_given-eq1 : goal.returns-then-next_given-eq1
-returns-then-next_given-eq1 c = lay_given c.requires.left c.args.wires.now c.args.offs.now c.next_given.ensures (omega arith)
-
-pub bounds-added-j : goal.bounds-added-j
-bounds-added-j c = added_left c.requires.left c.next_given.ensures (λ e. omega arith)
-
-pub bounds-others-j : goal.bounds-others-j
-bounds-others-j c = omega (arith, added_left c.requires.left c.next_given.ensures (λ e. omega arith), c.requires.left.even.added)
+pub entry-e-requires-else-is_given : goal.entry-e-requires-else-is_given
+entry-e-requires-else-is_given c = omega (arith, added_left c.requires.left (rw c.if-is_given.false at c.given_is_next-is_given.ensures), c.requires.left.even.added)
 
 pub returns : goal.returns
-returns c = lay_added c.requires.left c.args.wires.now c.args.offs.now c.next_given.ensures (λ e. omega arith)
+returns c = elim c.if-is_given.branch [
+  | then-is_given w ↦ rw (w.e-is, w.entry-e.ensures, w.if-is_given.true) (lay_given c.requires.left c.args.wires.now c.args.offs.now (rw w.if-is_given.true at c.given_is_next-is_given.ensures))
+  | else-is_given w ↦ rw (w.e-is, w.entry-e-else-is_given.ensures, w.if-is_given.false) (lay_added c.requires.left c.args.wires.now c.args.offs.now (rw w.if-is_given.false at c.given_is_next-is_given.ensures))
+]
