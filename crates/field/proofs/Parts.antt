@@ -6,8 +6,10 @@ use mathlib.Core.Path.{◌≡◌, refl, sym, ap, ◌∙◌}
 use mathlib.Core.List.{List, [], ◌∷◌, ◌++◌, append-nil}
 use lib.ListN.{length, set, take, drop, length-drop, drop_of_length-le}
 use lib.Seq.{sets, take_all}
-use Rattle.field.specs.Format.{laid}
-use Rattle.field.proofs.Writing.{laid_whole}
+use Rattle.std.specs.Prelude.{Ok, Err}
+use Rattle.rules.specs.declared.Refusal.{Refusal}
+use Rattle.field.specs.Format.{wrote, laid}
+use Rattle.field.proofs.Writing.{laid_whole, not_refused, wrote_length}
 
 sets_cons : (x : ℕ) (xs : List ℕ) (j : ℕ) (vs : List ℕ) → sets (x ∷ xs) (suc j) vs ≡ x ∷ sets xs j vs
 sets_cons x xs j [] = refl
@@ -39,7 +41,16 @@ Part out at = take (length out - at) (drop at out)
 part_long : (out : List ℕ) (at : ℕ) → length (Part out at) ≡ length out - at
 part_long out at = ap length (take_all (length out - at) (drop at out) (rw length-drop (omega arith))) ∙ length-drop at out
 
--- a field written in that part, which has room for it
-pub put_back : (out bs : List ℕ) (at : ℕ) {part : List ℕ} → at + length bs ≤ length out → part ≡ laid bs (Part out at) → take at out ++ (part ++ drop (length out - at) (drop at out)) ≡ sets out at bs
-put_back out bs at h e =
-    ap (λ (p : List ℕ). take at out ++ (p ++ drop (length out - at) (drop at out))) (e ∙ laid_whole bs (Part out at) (omega (arith, part_long out at))) ∙ part_back out bs at (omega arith)
+-- a field written in that part, which has room for it: its bytes stand there, and its length is answered
+module _ (out bs : List ℕ) (at : ℕ) (h : at + length bs ≤ length out) where
+  part_room : length bs ≤ length (Part out at)
+  part_room = omega (arith, part_long out at)
+
+  pub put_back : {part : List ℕ} → part ≡ laid bs (Part out at) → take at out ++ (part ++ drop (length out - at) (drop at out)) ≡ sets out at bs
+  put_back e = ap (λ (p : List ℕ). take at out ++ (p ++ drop (length out - at) (drop at out))) (e ∙ laid_whole bs (Part out at) part_room) ∙ part_back out bs at (omega arith)
+
+  pub put_length : {n : ℕ} → Ok n ≡ wrote bs (Part out at) → n ≡ length bs
+  put_length = wrote_length bs (Part out at) part_room
+
+  pub put_never_refused : {r : Refusal} → Err r ≡ wrote bs (Part out at) → ⊥
+  put_never_refused = not_refused bs (Part out at) part_room

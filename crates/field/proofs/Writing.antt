@@ -10,6 +10,7 @@ use lib.Seq.{sets}
 use lib.Dec.{ltb}
 use mathlib.Core.Bool.{Bool, true, false}
 use borrow.Author.Tests.{lt-ltb, le-ltb, ltb-true, ltb-false}
+use Rattle.rules.specs.declared.Refusal.{Refusal}
 use Rattle.rules.specs.declared.Refusal.TheVariants.{NoRoom}
 use Rattle.field.specs.Format.{wrote, laid, wrote_number, wrote_count}
 
@@ -40,3 +41,14 @@ module _ (bs out : List ℕ) where
 -- with room for it a field is laid whole
 pub laid_whole : (bs out : List ℕ) → length bs ≤ length out → laid bs out ≡ sets out 0 bs
 laid_whole bs out h = rw (le-ltb (length out) (length bs) h)
+
+-- and what is answered is its length, and no refusal
+module _ (bs out : List ℕ) (h : length bs ≤ length out) where
+  pub wrote_whole : wrote bs out ≡ Ok (length bs)
+  wrote_whole = rw (le-ltb (length out) (length bs) h)
+
+  pub not_refused : {r : Refusal} → Err r ≡ wrote bs out → ⊥
+  not_refused e = absurd (let z : ◌≡◌ {A = ℕ} 0 1 = (let q = wrote_whole in cc) in omega arith)
+
+  pub wrote_length : {n : ℕ} → Ok n ≡ wrote bs out → n ≡ length bs
+  wrote_length e = let q = wrote_whole in cc

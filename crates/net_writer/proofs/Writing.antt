@@ -2,7 +2,7 @@
 use Prim.Native.Nat.{ℕ, suc, ◌+◌, ◌-◌, ◌*◌, ◌<◌, ◌≤◌}
 use native.Mathlib.Omega.{arith}
 use native.Mathlib.Numerals.{add-one}
-use mathlib.Core.Path.{◌≡◌, refl, sym, ap, ◌∙◌}
+use mathlib.Core.Path.{◌≡◌, sym, ap, ◌∙◌}
 use mathlib.Core.Bool.{Bool, true, false}
 use mathlib.Core.List.{List, ◌++◌}
 use lib.ListN.{length, length-append}
@@ -62,11 +62,9 @@ module _ (nodes : ℕ → Node) (places : ℕ) where
     pub record Putting (out : List ℕ) (at i : ℕ) : Type 0 where
       pub some : 1 ≤ i
       pub long : length out ≡ length first
+      pub ends : at + length (Left i) ≡ 12 + length (Left 1)
       pub room : at + length (Left i) ≤ length out
       pub rest : sets first 12 (Left 1) ≡ sets out at (Left i)
-
-    pub put_start : {at : ℕ} → at ≡ 12 → 12 + length (Left 1) ≤ length first → Putting first at 1
-    put_start e h = record { some = omega arith; long = refl; room = omega arith; rest = rw e }
 
     module _ {out : List ℕ} {at i : ℕ} (p : Putting out at i) where
       pub room_next : i < places → {v : Value} → v ≡ field_of (nodes i) → at + length (bytes_of v) ≤ length out
@@ -79,6 +77,7 @@ module _ (nodes : ℕ → Node) (places : ℕ) where
           record {
             some = omega arith;
             long = k ∙ p.long;
+            ends = omega (arith, p.ends, left_size i h);
             room = omega (arith, p.room, left_size i h);
             rest = p.rest
                 ∙ ap (sets out at) (left_next i h)
@@ -91,6 +90,9 @@ module _ (nodes : ℕ → Node) (places : ℕ) where
 
       pub put_end : places ≤ i → {more : List ℕ} → more ≡ sets out at (bytes_of End) → more ≡ sets first 12 (Left 1)
       put_end h q = q ∙ sym (p.rest ∙ ap (sets out at) (left_end i h))
+
+      pub count_whole : places ≤ i → at + length (bytes_of End) ≡ 12 + length (Left 1)
+      count_whole h = omega (arith, p.ends, ap length (left_end i h))
 
 -- the limits before them
 pub put_all : (out : List ℕ) (l : Limits) (bs : List ℕ) {first more : List ℕ} → first ≡ sets out 0 (bytes_of (LimitsField l)) → more ≡ sets first 12 bs → more ≡ sets out 0 (bytes_of (LimitsField l) ++ bs)

@@ -1,15 +1,14 @@
 // A net's file, written into a lent buffer: RULES 6.7.
 #![tactic(auto)]
 
-ghost use Rattle.std.specs.Prelude.{◌≡◌, ◌≤◌, length};
+ghost use Rattle.std.specs.Prelude.{Ok, ◌≡◌, ◌≤◌, length};
 ghost use Rattle.std.proofs.lemmas.List.Edits.{sets};
-ghost use Rattle.rules.specs.Net.{net_at, unlimited};
+ghost use Rattle.rules.specs.Net.{net_of};
 ghost use Rattle.net.specs.Counted.{Level};
 ghost use Rattle.net_file.specs.NetFile.{field_of, net_bytes, WroteNet};
 
 use field::Value;
-use net_file::NetWrote;
-use rules::{Judged, Limits, Node, Refusal};
+use rules::{LentNet, Node, Refusal};
 
 // The field of a node.
 fn value_of(d: Node) -> Value
@@ -30,66 +29,38 @@ fn value_of(d: Node) -> Value
 }
 
 // The bytes of a file with these nodes: 15 for the limits and the end.
-fn net_size(parent: &[u16], wire: &[u32], kind: &[u8], pin: &[u32], polarity: &[u8]) -> usize
-    requires { Level (net_at unlimited parent wire kind pin polarity) }
-    ensures { result ≡ length (net_bytes (net_at unlimited parent.entry wire.entry kind.entry pin.entry polarity.entry)) }
+fn net_size(net: &LentNet) -> usize
+    requires { Level (net_of net.now) }
+    ensures { result ≡ length (net_bytes (net_of net.now)) }
 {
     let mut size: usize = 15;
-    let mut i: usize = 1;
-    while i < parent.len() {
-        let d = net::node_at(parent, wire, kind, pin, polarity, i);
-        size += field_writer::size(value_of(d));
-        i += 1;
+    for i in 1..net.parent.len() {
+        size += field_writer::size(value_of(net.node(i)));
     }
     size
 }
 
-// Each field goes to the rest of the buffer, right behind its predecessor (RULES 3.14).
-fn put_fields(
-    l: Limits,
-    parent: &[u16],
-    wire: &[u32],
-    kind: &[u8],
-    pin: &[u32],
-    polarity: &[u8],
-    out: &mut [u8],
-)
-    requires { Level (net_at unlimited parent wire kind pin polarity) × (length (net_bytes (net_at l parent wire kind pin polarity)) ≤ length out.old) }
-    ensures { out.new ≡ sets out.old 0 (net_bytes (net_at l parent.entry wire.entry kind.entry pin.entry polarity.entry)) }
+// Each field goes to the rest of the buffer, right behind its predecessor (RULES 3.14). Answers the bytes written.
+fn put_fields(net: &LentNet, out: &mut [u8]) -> Result<usize, Refusal>
+    requires { Level (net_of net.now) × (length (net_bytes (net_of net.now)) ≤ length out.old) }
+    ensures { (result ≡ Ok (length (net_bytes (net_of net.now)))) × (out.new ≡ sets out.old 0 (net_bytes (net_of net.now))) }
 {
-    field_writer::write_field(out, Value::Limits(l));
-    let mut at: usize = 12;
-    let mut i: usize = 1;
-    while i < parent.len() {
-        let d = net::node_at(parent, wire, kind, pin, polarity, i);
-        let v = value_of(d);
-        field_writer::write_field(&mut out[at..], v);
-        at += field_writer::size(v);
-        i += 1;
+    let mut at = field_writer::write_field(out, Value::Limits(net.limits))?;
+    for i in 1..net.parent.len() {
+        at += field_writer::write_field(&mut out[at..], value_of(net.node(i)))?;
     }
-    field_writer::write_field(&mut out[at..], Value::End);
+    at += field_writer::write_field(&mut out[at..], Value::End)?;
+    Ok(at)
 }
 
 // Writes a net's file. The columns are judged, and the room, in the order of RULES 5.9, before anything is written.
-pub fn write_net(
-    limits: Limits,
-    parent: &[u16],
-    wire: &[u32],
-    kind: &[u8],
-    pin: &[u32],
-    polarity: &[u8],
-    out: &mut [u8],
-) -> NetWrote
-    ensures { WroteNet (net_at limits parent.entry wire.entry kind.entry pin.entry polarity.entry) out.old out.new result }
+pub fn write_net(net: &LentNet, out: &mut [u8]) -> Result<usize, Refusal>
+    ensures { WroteNet (net_of net.now) out.old out.new result }
 {
-    let judged = net::judge(limits, parent, wire, kind, pin, polarity);
-    if let Judged::Refused(r) = judged {
-        return NetWrote::Refused(r);
-    }
-    let size = net_size(parent, wire, kind, pin, polarity);
+    net::judge(net)?;
+    let size = net_size(net);
     if out.len() < size {
-        return NetWrote::Refused(Refusal::NoRoom(size as u64));
+        return Err(Refusal::NoRoom(size as u64));
     }
-    put_fields(limits, parent, wire, kind, pin, polarity, out);
-    NetWrote::Written(size)
+    put_fields(net, out)
 }
