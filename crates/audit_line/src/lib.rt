@@ -29,9 +29,8 @@ pub fn refuse(out: &mut [u8], word: &[u8], why: Refusal) -> Audited
     requires { (length word.now ≤ 64) × (most_line ≤ length out.old) }
     ensures { RefusedSays word.now why out.new result }
 {
-    let bytes = answer::put_refusal(out, word, why);
     Audited {
-        bytes: bytes,
+        bytes: answer::put_refusal(out, word, why),
         found: Found::Refused,
     }
 }
@@ -41,32 +40,27 @@ pub fn tell_legal(count: u64, least: u64, out: &mut [u8]) -> Audited
     requires { most_line ≤ length out.old }
     ensures { LegalSays count least out.new result }
 {
-    let bytes = answer::put_line(
-        out,
-        0,
-        answer::pair_line(b": legal ", count, b" least ", least),
-    );
-    if count == least {
-        return Audited {
-            bytes: bytes,
-            found: Found::Least,
-        };
-    }
+    let line = answer::pair_line(b": legal ", count, b" least ", least);
     Audited {
-        bytes: bytes,
-        found: Found::Legal,
+        bytes: answer::put_line(out, 0, line),
+        found: if count == least {
+            Found::Least
+        } else {
+            Found::Legal
+        },
     }
 }
 
 // The line of a record with such a file.
-pub fn missing_line(m: Missing, out: &mut [u8]) -> usize
+pub fn missing_line(missing: Missing, out: &mut [u8]) -> usize
     requires { most_line ≤ length out.old }
-    ensures { Shows (missing_text m) out.new result }
+    ensures { Shows (missing_text missing) out.new result }
 {
-    match m {
-        Missing::NoNet => answer::put(out, 0, b": no net file\n"),
-        Missing::NetUnreadable => answer::put(out, 0, b": net file unreadable\n"),
-        Missing::NoPlacement => answer::put(out, 0, b": no placement file\n"),
-        Missing::PlacementUnreadable => answer::put(out, 0, b": placement file unreadable\n"),
-    }
+    let line: &[u8] = match missing {
+        Missing::NoNet => b": no net file\n",
+        Missing::NetUnreadable => b": net file unreadable\n",
+        Missing::NoPlacement => b": no placement file\n",
+        Missing::PlacementUnreadable => b": placement file unreadable\n",
+    };
+    answer::put(out, 0, line)
 }

@@ -5,4 +5,4 @@ use Rattle.reply.proofs.Showing.{shown}
 use Rattle.audit_line.proofs.refuse.Goals as goal
 
 pub returns : goal.returns
-returns c = record { shows = shown c.put_refusal-bytes.ensures.laid (omega (arith, c.put_refusal-bytes.ensures.upper_bound, c.requires)); found = refl }
+returns c = record { shows = shown c.put_refusal.ensures.laid (omega (arith, c.put_refusal.ensures.upper_bound, c.requires)); found = refl }
