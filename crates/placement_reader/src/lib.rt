@@ -7,6 +7,7 @@ ghost use Rattle.field.specs.Listed.{listed};
 ghost use Rattle.placement_file.specs.File.{allowed, count_in, entry_in, owed, count_judged, entry_at, entry_judged, end_judged, body_judged, file_judged, wire, offset, placement_of, ReadAs};
 
 use field::{Field, Value};
+use placement_file::Entries;
 use rules::{Entry, Refusal};
 
 // The number in a count's field; 0 in another.
@@ -109,4 +110,11 @@ pub fn read_placement(s: &[u8], wires: &mut [u16], offsets: &mut [u32]) -> Resul
     }
     fill(s, n, wires, offsets);
     Ok(n)
+}
+
+// Reads a placement file into columns that have room for any.
+pub fn read(s: &[u8], entries: &mut Entries) -> Result<usize, Refusal>
+    ensures { ReadAs (placement_of s.now) entries.old.wires entries.old.offsets entries.new.wires entries.new.offsets result }
+{
+    read_placement(s, &mut entries.wires, &mut entries.offsets)
 }
