@@ -21,10 +21,6 @@ use Rattle.relief.proofs.Runs.{sorted_on, here, none_lower, elsewhere, past_here
 use Rattle.adding.specs.declared.Wire.{Wire}
 use Rattle.adding.specs.Walks.{Begins, Through, Passed}
 
--- within the limit a piece takes none
-pub takes_none : (τ : Cell) → τ.cu ≡ τ.cb + τ.D → 1 ≤ τ.D → (v : ℕ) → v ≤ τ.cu → 0 ≡ ceil τ v
-takes_none τ eq pos v h = omega (arith, ceil_least τ eq pos v 0 (omega arith))
-
 -- ---- one entry more, or none
 pub entry_at : (ws os : List ℕ) (e : ℕ) → length os ≡ length ws → e < length ws → from ws os e ≡ record { wire = get_or ws e 0; offset = get_or os e 0 } ∷ from ws os (suc e)
 unfolding entries

@@ -9,6 +9,8 @@ use Rattle.frontier.specs.Cell.{Cell}
 use Rattle.frontier.specs.Placed.{on_wires}
 use Rattle.relief.specs.Pieces.{most_piece, added_from}
 use Rattle.relief.specs.Runs.{from, Sorted, past}
+use Rattle.states.specs.States.{model_of}
+use Rattle.adding.specs.declared.Half.{Half}
 use Rattle.adding.specs.declared.Wire.{Wire}
 use Rattle.adding.specs.declared.Walked.{Walked}
 
@@ -92,3 +94,31 @@ pub record WroteAll (τ : Cell) (ws os : List ℕ) (e : ℕ) (x : Wire) (k : ℕ
 pub record Room (vs : List ℕ) (to : ℕ) (wires offs : List ℕ) : Type 0 where
   pub in_wires : to + length vs ≤ length wires
   pub in_offs : to + length vs ≤ length offs
+
+-- ---- of a half-buffered net
+abbrev pub given_wires : Half → List ℕ
+given_wires h = h.given.now.wires.now
+
+abbrev pub given_offsets : Half → List ℕ
+given_offsets h = h.given.now.offsets.now
+
+abbrev pub added : Half → List Entry
+added h = all_added (model_of h.cell) h.wire.now h.tables.now.below h.tables.now.on (entries (given_wires h) (given_offsets h))
+
+abbrev pub IsReady : Half → Type 0
+IsReady h = Ready (model_of h.cell) h.wire.now h.tables.now.below h.tables.now.on (given_wires h) (given_offsets h)
+
+abbrev pub begun : Wire → ℕ → ℕ → Walked
+begun x next to = record { next = next; to = to; at = 0; load = x.below }
+
+abbrev pub BeginsIn : Half → ℕ → Wire → Type 0
+BeginsIn h = Begins (model_of h.cell) (given_wires h) (given_offsets h)
+
+abbrev pub CountsIn : Half → ℕ → Wire → ℕ → Walked → Type 0
+CountsIn h = Counts (model_of h.cell) (given_wires h) (given_offsets h)
+
+abbrev pub WroteIn : Half → ℕ → Wire → ℕ → Walked → List ℕ → List ℕ → List ℕ → List ℕ → Type 0
+WroteIn h = Wrote (model_of h.cell) (given_wires h) (given_offsets h)
+
+abbrev pub WroteAllIn : Half → ℕ → Wire → ℕ → Walked → List ℕ → List ℕ → List ℕ → List ℕ → Type 0
+WroteAllIn h = WroteAll (model_of h.cell) (given_wires h) (given_offsets h)

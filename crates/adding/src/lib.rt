@@ -3,16 +3,28 @@
 
 ghost use Rattle.std.specs.Prelude.{◌≡◌, [], ◌+◌, ◌-◌, ◌≤◌, ◌<◌, length};
 ghost use Rattle.rules.specs.Figures.{most_wire, most_places};
-ghost use Rattle.rules.specs.Load.{entries, offsets_on};
+ghost use Rattle.rules.specs.Load.{offsets_on};
 ghost use Rattle.frontier.specs.Frontier;
 ghost use Rattle.frontier.specs.Spaced.{spread};
 ghost use Rattle.columns.specs.Columns.{Holds};
-ghost use Rattle.states.specs.States.{model_of, CellOk};
+ghost use Rattle.states.specs.States.{model_of};
 ghost use Rattle.relief.specs.Pieces.{most_piece, added_from};
 ghost use Rattle.relief.specs.Runs;
-ghost use Rattle.adding.specs.Walks.{all_added, Ready, IsWire, Begins, Counts, Stores, Wrote, WroteAll, Room};
+ghost use Rattle.adding.specs.Walks.{added, IsReady, IsWire, begun, BeginsIn, CountsIn, Stores, WroteIn, WroteAllIn, Room};
 
+use buffers::Tables;
+use columns::Run;
+use rules::LentPlacement;
 use states::Cell;
+
+// A half-buffered net after the way up: its limits, the sizes of its wires, the tables, and the given entries.
+#[derive(Clone, Copy)]
+pub struct Half<'a> {
+    pub cell: Cell,
+    pub wire: &'a [u32],
+    pub tables: &'a Tables,
+    pub given: &'a LentPlacement<'a>,
+}
 
 // A wire: its number and size, what lies below it, and how many buffers stand at its upper end for its parent's sake.
 #[derive(Clone, Copy)]
@@ -33,226 +45,170 @@ pub struct Walked {
     pub load: u64,
 }
 
-pub fn wire_at(wire: &[u32], below: &[u32], on: &[u8], i: usize) -> Wire
-    requires { (i < most_places) × (i < length wire.now) × (i < length below.now) × (i < length on.now) }
-    ensures { IsWire wire.now below.now on.now i result }
-{
-    let number = i as u16;
-    let size = states::wide(wire[i]);
-    let load = states::wide(below[i]);
-    let top = on[i] as usize;
-    Wire {
-        number: number,
-        size: size,
-        below: load,
-        top: top,
+impl Wire {
+    // Wire i, by the sizes and the tables.
+    pub fn at(wire: &[u32], tables: &Tables, i: usize) -> Wire
+        requires { (i < most_places) × (i < length wire.now) }
+        ensures { IsWire wire.now tables.now.below tables.now.on i result }
+    {
+        Wire {
+            number: i as u16,
+            size: u64::from(wire[i]),
+            below: u64::from(tables.below[i]),
+            top: usize::from(tables.on[i]),
+        }
+    }
+
+    // At its lower end, before entry `next` and the place `to`.
+    pub fn begin(self, next: usize, to: usize) -> Walked
+        ensures { result ≡ begun self next to }
+    {
+        Walked {
+            next: next,
+            to: to,
+            at: 0,
+            load: self.below,
+        }
     }
 }
 
 // How many buffers a piece of wire takes, v its size and what hangs below it.
 pub fn takes(c: Cell, v: u64) -> usize
-    requires { CellOk c × (v ≤ most_piece) }
+    requires { v ≤ most_piece }
     ensures { (result ≡ Frontier.ceil (model_of c) v) × (result ≤ most_piece) }
 {
-    if v <= c.limit {
-        return 0;
-    }
-    states::ceil(c, v) as usize
+    c.ceil(v) as usize
 }
 
-// Passes the given entries of wire x from entry `from` on, and counts what is added below and between them.
-fn count_given(c: Cell, x: Wire, given: &[u16], offsets: &[u32], from: usize, to: usize) -> Walked
-    requires { CellOk c × Begins (model_of c) given.now offsets.now from x × (to ≤ 100000000000000) }
-    ensures { Counts (model_of c) given.now offsets.now from x to result }
+// The entries of the piece of wire i that the walk has come to, up to w. Answers the place after them.
+fn write_piece(c: Cell, wires: &mut [u16], offs: &mut [u32], i: u16, w: u64, walk: Walked) -> usize
+    requires fits { (walk.at ≤ w) × (w ≤ most_wire) × (walk.load ≤ c.limit) }
+    requires room { Room (spread (model_of c) w walk.at walk.load (Frontier.ceil (model_of c) ((w - walk.at) + walk.load))) walk.to wires.old offs.old }
+    ensures { (result ≡ walk.to + Frontier.ceil (model_of c) ((w - walk.at) + walk.load)) × Stores (spread (model_of c) w walk.at walk.load (Frontier.ceil (model_of c) ((w - walk.at) + walk.load))) i walk.to wires.old offs.old wires.new offs.new }
 {
-    let mut e = from;
-    let mut k = to;
-    let mut at: u64 = 0;
-    let mut load = x.below;
-    while e < given.len() {
-        if given[e] != x.number {
-            return Walked {
-                next: e,
-                to: k,
-                at: at,
-                load: load,
-            };
-        }
-        let o = states::wide(offsets[e]);
-        k = k + takes(c, (o - at) + load);
-        at = o;
-        load = c.pin;
-        e = e + 1;
+    let count = takes(c, (w - walk.at) + walk.load);
+    if count == 0 {
+        return walk.to;
     }
-    Walked {
-        next: e,
-        to: k,
-        at: at,
-        load: load,
-    }
+    let run = Run {
+        wire: i,
+        size: w,
+        lowest: w.min(walk.at + (c.limit - walk.load)),
+        span: c.span,
+        count: count,
+    };
+    columns::write_spaced(wires, offs, walk.to, run);
+    walk.to + count
 }
 
-// How many entries are added.
-pub fn count_all(
-    c: Cell,
-    wire: &[u32],
-    below: &[u32],
-    on: &[u8],
-    given: &[u16],
-    offsets: &[u32],
-) -> u64
-    requires { CellOk c × Ready (model_of c) wire.now below.now on.now given.now offsets.now }
-    ensures { result ≡ length (all_added (model_of c) wire.now below.now on.now (entries given.now offsets.now)) }
+// The entries of wire x from where the walk has come to, with nothing given above, and those at its upper end. Answers the place after them.
+pub fn write_above(c: Cell, x: Wire, wires: &mut [u16], offs: &mut [u32], walk: Walked) -> usize
+    requires fits { (walk.at ≤ x.size) × (x.size ≤ most_wire) × (walk.load ≤ c.limit) }
+    requires room { Room (added_from (model_of c) x.size x.top walk.at walk.load []) walk.to wires.old offs.old }
+    ensures { (result ≡ walk.to + length (added_from (model_of c) x.size x.top walk.at walk.load [])) × Stores (added_from (model_of c) x.size x.top walk.at walk.load []) x.number walk.to wires.old offs.old wires.new offs.new }
 {
-    let mut i: usize = 1;
-    let mut e: usize = 0;
-    let mut to: usize = 0;
-    while i < wire.len() {
-        let x = wire_at(wire, below, on, i);
-        let p = count_given(c, x, given, offsets, e, to);
-        let last = takes(c, (x.size - p.at) + p.load);
-        to = p.to + last + x.top;
-        e = p.next;
-        i = i + 1;
-    }
-    to as u64
-}
-
-// The entries of one piece of wire i, from `at` where `load` hangs up to w. Answers the place after them.
-fn write_piece(
-    c: Cell,
-    wires: &mut [u16],
-    offs: &mut [u32],
-    to: usize,
-    i: u16,
-    w: u64,
-    at: u64,
-    load: u64,
-) -> usize
-    requires cell_ok { CellOk c × (at ≤ w) × (w ≤ most_wire) × (load ≤ c.limit) }
-    requires room { Room (spread (model_of c) w at load (Frontier.ceil (model_of c) ((w - at) + load))) to wires.old offs.old }
-    ensures { (result ≡ to + Frontier.ceil (model_of c) ((w - at) + load)) × Stores (spread (model_of c) w at load (Frontier.ceil (model_of c) ((w - at) + load))) i to wires.old offs.old wires.new offs.new }
-{
-    let v = (w - at) + load;
-    let r = takes(c, v);
-    if r == 0 {
-        return to;
-    }
-    let o = states::least(w, at + (c.limit - load));
-    columns::write_spaced(wires, offs, to, i, w, o, c.span, r);
-    to + r
-}
-
-// Passes the given entries of wire x from entry `from` on, and writes what is added below and between them.
-fn write_given(
-    c: Cell,
-    x: Wire,
-    given: &[u16],
-    offsets: &[u32],
-    wires: &mut [u16],
-    offs: &mut [u32],
-    from: usize,
-    to: usize,
-) -> Walked
-    requires cell_ok { CellOk c × Begins (model_of c) given.now offsets.now from x }
-    requires room { Room (added_from (model_of c) x.size x.top 0 x.below (offsets_on (Runs.from given.now offsets.now from) x.number)) to wires.old offs.old }
-    ensures { Wrote (model_of c) given.now offsets.now from x to result wires.old offs.old wires.new offs.new }
-{
-    let mut e = from;
-    let mut k = to;
-    let mut at: u64 = 0;
-    let mut load = x.below;
-    while e < given.len() {
-        if given[e] != x.number {
-            return Walked {
-                next: e,
-                to: k,
-                at: at,
-                load: load,
-            };
-        }
-        let o = states::wide(offsets[e]);
-        k = write_piece(c, wires, offs, k, x.number, o, at, load);
-        at = o;
-        load = c.pin;
-        e = e + 1;
-    }
-    Walked {
-        next: e,
-        to: k,
-        at: at,
-        load: load,
-    }
-}
-
-// The entries of wire x from `at` on, where `load` hangs and nothing is given above, with those at its upper end. Answers the place after them.
-pub fn write_above(
-    c: Cell,
-    x: Wire,
-    wires: &mut [u16],
-    offs: &mut [u32],
-    to: usize,
-    at: u64,
-    load: u64,
-) -> usize
-    requires cell_ok { CellOk c × (at ≤ x.size) × (x.size ≤ most_wire) × (load ≤ c.limit) }
-    requires room { Room (added_from (model_of c) x.size x.top at load []) to wires.old offs.old }
-    ensures { (result ≡ to + length (added_from (model_of c) x.size x.top at load [])) × Stores (added_from (model_of c) x.size x.top at load []) x.number to wires.old offs.old wires.new offs.new }
-{
-    let next = write_piece(c, wires, offs, to, x.number, x.size, at, load);
-    columns::write_spaced(wires, offs, next, x.number, x.size, x.size, 0, x.top);
+    let next = write_piece(c, wires, offs, x.number, x.size, walk);
+    let run = Run {
+        wire: x.number,
+        size: x.size,
+        lowest: x.size,
+        span: 0,
+        count: x.top,
+    };
+    columns::write_spaced(wires, offs, next, run);
     next + x.top
 }
 
-// All that is added to wire x, whose given entries stand from entry `from` on.
-fn write_wire(
-    c: Cell,
-    x: Wire,
-    given: &[u16],
-    offsets: &[u32],
-    wires: &mut [u16],
-    offs: &mut [u32],
-    from: usize,
-    to: usize,
-) -> Walked
-    requires cell_ok { CellOk c × Begins (model_of c) given.now offsets.now from x }
-    requires room { Room (added_from (model_of c) x.size x.top 0 x.below (offsets_on (Runs.from given.now offsets.now from) x.number)) to wires.old offs.old }
-    ensures { WroteAll (model_of c) given.now offsets.now from x to result wires.old offs.old wires.new offs.new }
-{
-    let p = write_given(c, x, given, offsets, wires, offs, from, to);
-    let end = write_above(c, x, wires, offs, p.to, p.at, p.load);
-    Walked {
-        next: p.next,
-        to: end,
-        at: p.at,
-        load: p.load,
+impl Half<'_> {
+    // Passes the given entries of wire x from entry `from` on, and counts what is added below and between them.
+    fn count_given(&self, x: Wire, from: usize, to: usize) -> Walked
+        requires { BeginsIn self.now from x × (to ≤ 100000000000000) }
+        ensures { CountsIn self.now from x to result }
+    {
+        let mut walk = x.begin(from, to);
+        while walk.next < self.given.wires.len() && self.given.wires[walk.next] == x.number {
+            let o = u64::from(self.given.offsets[walk.next]);
+            walk.to += takes(self.cell, (o - walk.at) + walk.load);
+            walk.at = o;
+            walk.load = self.cell.pin;
+            walk.next += 1;
+        }
+        walk
     }
-}
 
-// All m entries that are added, in list order, into the first places of the lent columns.
-pub fn write_all(
-    c: Cell,
-    wire: &[u32],
-    below: &[u32],
-    on: &[u8],
-    given: &[u16],
-    offsets: &[u32],
-    wires: &mut [u16],
-    offs: &mut [u32],
-    m: usize,
-)
-    requires cell_ok { CellOk c × Ready (model_of c) wire.now below.now on.now given.now offsets.now }
-    requires m_value { (m ≡ length (all_added (model_of c) wire.now below.now on.now (entries given.now offsets.now))) × (m ≤ length wires.old) × (m ≤ length offs.old) }
-    ensures { Holds (all_added (model_of c) wire.now below.now on.now (entries given.now offsets.now)) wires.old offs.old wires.new offs.new }
-{
-    let mut i: usize = 1;
-    let mut e: usize = 0;
-    let mut to: usize = 0;
-    while to < m {
-        let x = wire_at(wire, below, on, i);
-        let p = write_wire(c, x, given, offsets, wires, offs, e, to);
-        to = p.to;
-        e = p.next;
-        i = i + 1;
+    // Passes the given entries of wire x from entry `from` on, and writes what is added below and between them.
+    fn write_given(
+        &self,
+        x: Wire,
+        wires: &mut [u16],
+        offs: &mut [u32],
+        from: usize,
+        to: usize,
+    ) -> Walked
+        requires begins { BeginsIn self.now from x }
+        requires room { Room (added_from (model_of self.now.cell) x.size x.top 0 x.below (offsets_on (Runs.from self.now.given.now.wires.now self.now.given.now.offsets.now from) x.number)) to wires.old offs.old }
+        ensures { WroteIn self.now from x to result wires.old offs.old wires.new offs.new }
+    {
+        let mut walk = x.begin(from, to);
+        while walk.next < self.given.wires.len() && self.given.wires[walk.next] == x.number {
+            let o = u64::from(self.given.offsets[walk.next]);
+            walk.to = write_piece(self.cell, wires, offs, x.number, o, walk);
+            walk.at = o;
+            walk.load = self.cell.pin;
+            walk.next += 1;
+        }
+        walk
+    }
+
+    // All that is added to wire x, whose given entries stand from entry `from` on.
+    fn write_wire(
+        &self,
+        x: Wire,
+        wires: &mut [u16],
+        offs: &mut [u32],
+        from: usize,
+        to: usize,
+    ) -> Walked
+        requires begins { BeginsIn self.now from x }
+        requires room { Room (added_from (model_of self.now.cell) x.size x.top 0 x.below (offsets_on (Runs.from self.now.given.now.wires.now self.now.given.now.offsets.now from) x.number)) to wires.old offs.old }
+        ensures { WroteAllIn self.now from x to result wires.old offs.old wires.new offs.new }
+    {
+        let mut walk = self.write_given(x, wires, offs, from, to);
+        walk.to = write_above(self.cell, x, wires, offs, walk);
+        walk
+    }
+
+    // How many entries are added.
+    pub fn count_all(&self) -> u64
+        requires { IsReady self.now }
+        ensures { result ≡ length (added self.now) }
+    {
+        let mut next = 0;
+        let mut to = 0;
+        for i in 1..self.wire.len() {
+            let x = Wire::at(self.wire, self.tables, i);
+            let walk = self.count_given(x, next, to);
+            to = walk.to + takes(self.cell, (x.size - walk.at) + walk.load) + x.top;
+            next = walk.next;
+        }
+        to as u64
+    }
+
+    // All m entries that are added, in list order, into the first places of the lent columns.
+    pub fn write_all(&self, wires: &mut [u16], offs: &mut [u32], m: usize)
+        requires ready { IsReady self.now }
+        requires m_value { (m ≡ length (added self.now)) × (m ≤ length wires.old) × (m ≤ length offs.old) }
+        ensures { Holds (added self.now) wires.old offs.old wires.new offs.new }
+    {
+        let mut i = 1;
+        let mut next = 0;
+        let mut to = 0;
+        while to < m {
+            let x = Wire::at(self.wire, self.tables, i);
+            let walk = self.write_wire(x, wires, offs, next, to);
+            to = walk.to;
+            next = walk.next;
+            i += 1;
+        }
     }
 }
