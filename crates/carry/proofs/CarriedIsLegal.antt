@@ -1,12 +1,12 @@
 -- RULES 6.19: after success the columns hold a legal placement of the second net. The cut column holds the carried entries, and easing keeps every legal placement.
+use Rattle.std.specs.Prelude.{Ok, Err}
 use Prim.Native.Nat.{ℕ}
 use mathlib.Core.Path.{◌≡◌, refl, sym, ap, ◌∙◌}
 use mathlib.Core.List.{List}
 use native.Mathlib.Omega.{arith}
 use lib.ListN.{length}
 use borrow.Author.Tests.{eq-eqb, le-leb}
-use Rattle.rules.specs.declared.Judged.{Judged}
-use Rattle.rules.specs.declared.Judged.TheVariants.{Sound, Refused}
+use Rattle.rules.specs.Judged.{Judged}
 use Rattle.rules.specs.Figures.{most_entries}
 use Rattle.rules.specs.Net.{Net}
 use Rattle.rules.specs.Load.{entries}
@@ -19,18 +19,17 @@ use Rattle.rules.proofs.Eased.{eased_says}
 use Rattle.checker.specs.Verdict.{LegalColumns}
 use Rattle.checker.proofs.CheckedIsLegal.{checked_is_legal}
 use Rattle.checker.proofs.VerdictSays.{columns_even, columns_few}
-use Rattle.carry.specs.declared.Outcome.{Outcome}
-use Rattle.carry.specs.Carry.{first_net, second_net, placement_of, offsets_of, column_after, CarriedIs}
+use Rattle.carry.specs.Carry.{Outcome, first_net, second_net, placement_of, offsets_of, column_after, CarriedIs}
 use Rattle.carry.proofs.Cut.{cut_length, cut_entries}
 
 -- an outcome that carries comes from three judgements that passed
-all_passed : (a b c : Judged) (count k : ℕ) → first_net a (second_net b (placement_of c count)) ≡ Outcome.Carried k → (a ≡ Sound) × (b ≡ Sound) × (c ≡ Sound)
-all_passed Sound Sound Sound count k e = (refl, refl, refl)
-all_passed Sound Sound (Refused r) count k e = absurd (let z : ◌≡◌ {A = ℕ} 0 1 = cc in omega arith)
-all_passed Sound (Refused r) c count k e = absurd (let z : ◌≡◌ {A = ℕ} 0 1 = cc in omega arith)
-all_passed (Refused r) b c count k e = absurd (let z : ◌≡◌ {A = ℕ} 0 1 = cc in omega arith)
+all_passed : (a b c : Judged) (count k : ℕ) → first_net a (second_net b (placement_of c count)) ≡ Ok k → (a ≡ Ok tt) × (b ≡ Ok tt) × (c ≡ Ok tt)
+all_passed (Ok _) (Ok _) (Ok _) count k e = (refl, refl, refl)
+all_passed (Ok _) (Ok _) (Err r) count k e = absurd (let z : ◌≡◌ {A = ℕ} 0 1 = cc in omega arith)
+all_passed (Ok _) (Err r) c count k e = absurd (let z : ◌≡◌ {A = ℕ} 0 1 = cc in omega arith)
+all_passed (Err r) b c count k e = absurd (let z : ◌≡◌ {A = ℕ} 0 1 = cc in omega arith)
 
-pub carried_is_legal : {n m : Net} {vs before after : List ℕ} {r : Outcome} → CarriedIs n m vs before r after → (k : ℕ) → r ≡ Outcome.Carried k → LegalColumns m vs after
+pub carried_is_legal : {n m : Net} {vs before after : List ℕ} {r : Outcome} → CarriedIs n m vs before r after → (k : ℕ) → r ≡ Ok k → LegalColumns m vs after
 carried_is_legal {n} {m} {vs} {before} {after} x k e =
     let (jn, jm, rest) = all_passed (judged n) (judged m) (then_judge (ease_judged n m) (checked n vs before)) (length vs) k (sym x.answer ∙ e) in
     let (eased, passed) = then_met (ease_judged n m) (checked n vs before) rest in

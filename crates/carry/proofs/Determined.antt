@@ -3,8 +3,7 @@ use Prim.Native.Nat.{ℕ}
 use mathlib.Core.Path.{◌≡◌, sym, ◌∙◌}
 use mathlib.Core.List.{List}
 use Rattle.rules.specs.Net.{Net}
-use Rattle.carry.specs.declared.Outcome.{Outcome}
-use Rattle.carry.specs.Carry.{CarriedIs}
+use Rattle.carry.specs.Carry.{Outcome, CarriedIs}
 
 pub carry_determined : (n m : Net) (vs before : List ℕ) {r r' : Outcome} {after after' : List ℕ}
     → CarriedIs n m vs before r after → CarriedIs n m vs before r' after' → (r ≡ r') × (after ≡ after')

@@ -1,11 +1,11 @@
 -- The carry's numbers: it answers k, and names a net or neither, exactly where the cases below say so, and so no other number.
+use Rattle.std.specs.Prelude.{Ok, Err}
 use Prim.Native.Nat.{ℕ}
 use mathlib.Core.Path.{◌≡◌, refl, sym, ◌∙◌}
 use mathlib.Core.Logic.{◌↔◌}
 use mathlib.Core.List.{List}
 use lib.ListN.{length}
-use Rattle.rules.specs.declared.Judged.{Judged}
-use Rattle.rules.specs.declared.Judged.TheVariants as judgements
+use Rattle.rules.specs.Judged.{Judged}
 use Rattle.rules.specs.Refusal.{judged_number}
 use Rattle.rules.specs.Net.{Net}
 use Rattle.rules.specs.Judge.{then_judge, judged}
@@ -15,25 +15,24 @@ use Rattle.rules.proofs.Judging.{Tested, held, failed, tested, then_next, then_s
 use Rattle.rules.proofs.Eased.{ease_tested}
 use Rattle.rules.proofs.Numbers.{NetRefuses}
 use Rattle.checker.proofs.Numbers.{CheckGives, checked_numbers}
-use Rattle.carry.specs.declared.Outcome.{Outcome}
-use Rattle.carry.specs.Carry.{outcome_number, which_net, first_net, second_net, placement_of, outcome, CarriedIs}
+use Rattle.carry.specs.Carry.{Outcome, outcome_number, which_net, first_net, second_net, placement_of, outcome, CarriedIs}
 
 -- what the number k says, and which of the two nets it is of: 1, 2, or 0 for neither
 pub data CarryGives (n m : Net) (vs os : List ℕ) (which k : ℕ) : Type 0 where
   of_first : which ≡ 1 → NetRefuses n k → CarryGives n m vs os which k
-  of_second : which ≡ 2 → judged n ≡ judgements.Sound → NetRefuses m k → CarryGives n m vs os which k
-  not_eased : which ≡ 0 → k ≡ 13 → judged n ≡ judgements.Sound → judged m ≡ judgements.Sound → (Eases n m → ⊥) → CarryGives n m vs os which k
+  of_second : which ≡ 2 → judged n ≡ Ok tt → NetRefuses m k → CarryGives n m vs os which k
+  not_eased : which ≡ 0 → k ≡ 13 → judged n ≡ Ok tt → judged m ≡ Ok tt → (Eases n m → ⊥) → CarryGives n m vs os which k
   -- the checker's numbers on the first net, and 0 where it says 0
-  of_placement : which ≡ 0 → judged n ≡ judgements.Sound → judged m ≡ judgements.Sound → Eases n m → CheckGives n vs os k → CarryGives n m vs os which k
+  of_placement : which ≡ 0 → judged n ≡ Ok tt → judged m ≡ Ok tt → Eases n m → CheckGives n vs os k → CarryGives n m vs os which k
 
 -- what is of neither net: the answer by its judgement
 neither : (j : Judged) (count : ℕ) → which_net (placement_of j count) ≡ 0
-neither judgements.Sound count = refl
-neither (judgements.Refused r) count = refl
+neither (Ok _) count = refl
+neither (Err r) count = refl
 
 by_judgement : (j : Judged) (count : ℕ) → outcome_number (placement_of j count) ≡ judged_number j
-by_judgement judgements.Sound count = refl
-by_judgement (judgements.Refused r) count = refl
+by_judgement (Ok _) count = refl
+by_judgement (Err r) count = refl
 
 module _ (n m : Net) (vs os : List ℕ) where
   -- 13, and then the placement
@@ -47,18 +46,18 @@ module _ (n m : Net) (vs os : List ℕ) where
   unfolding given_by rest
   given = by_first (judged n) refl
     where
-      by_ease : judged n ≡ judgements.Sound → judged m ≡ judgements.Sound → Tested (ease_judged n m) (Eases n m) 13
+      by_ease : judged n ≡ Ok tt → judged m ≡ Ok tt → Tested (ease_judged n m) (Eases n m) 13
           → CarryGives n m vs os 0 (judged_number (then_judge (ease_judged n m) (checked n vs os)))
       by_ease s t (held e eased) = rw e (of_placement refl s t eased ((checked_numbers n vs os (judged_number (checked n vs os))).0 refl))
       by_ease s t (failed e c not) = rw e (not_eased refl c s t not)
 
-      by_second : judged n ≡ judgements.Sound → (j : Judged) → judged m ≡ j → given_by (second_net j (placement_of rest (length vs)))
-      by_second s judgements.Sound t = rw (neither rest (length vs), by_judgement rest (length vs)) (by_ease s t (tested (ease_tested n m s t)))
-      by_second s (judgements.Refused x) t = of_second refl s (record { refusal = x; refused = t; number = refl })
+      by_second : judged n ≡ Ok tt → (j : Judged) → judged m ≡ j → given_by (second_net j (placement_of rest (length vs)))
+      by_second s (Ok _) t = rw (neither rest (length vs), by_judgement rest (length vs)) (by_ease s t (tested (ease_tested n m s t)))
+      by_second s (Err x) t = of_second refl s (record { refusal = x; refused = t; number = refl })
 
       by_first : (j : Judged) → judged n ≡ j → given_by (first_net j (second_net (judged m) (placement_of rest (length vs))))
-      by_first judgements.Sound s = by_second s (judged m) refl
-      by_first (judgements.Refused x) s = of_first refl (record { refusal = x; refused = s; number = refl })
+      by_first (Ok _) s = by_second s (judged m) refl
+      by_first (Err x) s = of_first refl (record { refusal = x; refused = s; number = refl })
 
   alone : (which k : ℕ) → CarryGives n m vs os which k → (which_net (outcome n m vs os) ≡ which) × (outcome_number (outcome n m vs os) ≡ k)
   alone which k (of_first w r) = rw r.refused (sym w, sym r.number)

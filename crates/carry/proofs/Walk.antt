@@ -1,11 +1,11 @@
 -- The walk of 13 over the nodes: what is left decides the answer.
+use Rattle.std.specs.Prelude.{Ok, Err}
 use Prim.Native.Nat.{ℕ, ◌+◌, ◌-◌, ◌≤◌, ◌<◌}
 use mathlib.Core.Path.{◌≡◌, refl, sym, ◌∙◌}
 use mathlib.Core.Bool.{Bool, true, false}
 use native.Mathlib.Omega.{arith}
 use borrow.Author.Tests.{eq-eqb, ne_eqb}
 use Rattle.rules.specs.declared.Node.{Node}
-use Rattle.rules.specs.declared.Judged.TheVariants.{Sound, Refused}
 use Rattle.rules.specs.declared.Refusal.TheVariants.{NotEased}
 use Rattle.rules.specs.Net.{Net, places, node}
 use Rattle.rules.specs.Judge.{unless}
@@ -27,19 +27,19 @@ module _ {n m : Net} {i : ℕ} (g : Easing n m i) where
     pub easing_next : z ≡ true → Easing n m (i + 1)
     easing_next t = record { going = going_next g.going (omega arith) (rw (tested, t)) }
 
-    pub easing_stop : z ≡ false → Refused (NotEased i) ≡ nodes_ease n m
-    easing_stop t = going_stop g.going (omega arith) (Refused (NotEased i)) (NotEased i) refl (rw (tested, t))
+    pub easing_stop : z ≡ false → Err (NotEased i) ≡ nodes_ease n m
+    easing_stop t = going_stop g.going (omega arith) (Err (NotEased i)) (NotEased i) refl (rw (tested, t))
 
-  pub easing_end : 1 ≤ places n → places n ≤ i → Sound ≡ nodes_ease n m
+  pub easing_end : 1 ≤ places n → places n ≤ i → Ok tt ≡ nodes_ease n m
   easing_end o h = going_end g.going (omega arith)
 
 -- ---- the limits and the size come first
 module _ (n m : Net) (z : Bool) (ez : z ≡ limits_ease n.limits m.limits) where
-  pub limits_stop : z ≡ false → Refused (NotEased 0) ≡ ease_judged n m
+  pub limits_stop : z ≡ false → Err (NotEased 0) ≡ ease_judged n m
   unfolding ease_judged
   limits_stop t = rw (← ez, t)
 
-  pub size_stop : z ≡ true → (places m ≡ places n → ⊥) → Refused (NotEased 0) ≡ ease_judged n m
+  pub size_stop : z ≡ true → (places m ≡ places n → ⊥) → Err (NotEased 0) ≡ ease_judged n m
   unfolding ease_judged
   size_stop t ne = rw (← ez, t, ne_eqb (places m) (places n) ne)
 

@@ -7,7 +7,7 @@ use Rattle.rules.specs.Load.{entries, offsets_on, source_drives, drivers}
 use Rattle.rules.specs.Legal.{Legal}
 use Rattle.rules.specs.Judge.{unless, then_judge, judged}
 use Rattle.rules.specs.Checked.{placement_fits, within_limit, one_sense, checked}
-use Rattle.load.specs.declared.Weighed.{Weighed}
+pub use Rattle.load.specs.declared.Weighed.{Weighed}
 -- a verdict by its judgement; its number is 0 for a legal placement, or the refusal's; its count may be the refusal's place, and its source what stood there before
 pub use Rattle.rules.specs.Refusal.{judged_number as verdict_number}
 pub use Rattle.load.specs.Weighed.{weighed_by as verdict_of, weighed_count as verdict_count, weighed_source as verdict_source}

@@ -8,7 +8,8 @@ ghost use Rattle.rules.specs.Checked.{within_limit};
 ghost use Rattle.load.specs.Asks.{offsets_at, Placed, Weighable};
 ghost use Rattle.checker.specs.Verdict.{settled, weighed, verdict};
 
-use load::{Tables, Weighed};
+use load::Tables;
+pub use load::Weighed;
 use rules::{LentNet, LentPlacement, Refusal};
 
 // 11 for the entries.

@@ -9,7 +9,7 @@ use Rattle.rules.specs.Net.{Net}
 use Rattle.rules.specs.Load.{entries, offsets_on, driven, source_drives}
 use Rattle.rules.specs.Judge.{unless, then_judge}
 use Rattle.standing.specs.Stands.{begun}
-use Rattle.load.specs.declared.Weighed.{Weighed}
+pub use Rattle.load.specs.declared.Weighed.{Weighed}
 -- an answer by its judgement; its number is 0 for a list, or the refusal's; its count may be the refusal's place, and its source what stood there before
 pub use Rattle.rules.specs.Refusal.{judged_number as listed_number}
 pub use Rattle.load.specs.Weighed.{weighed_by as listed_of, weighed_count as listed_count, weighed_source as listed_source}

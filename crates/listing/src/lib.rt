@@ -8,7 +8,8 @@ ghost use Rattle.rules.specs.Load.{driven, source_drives};
 ghost use Rattle.load.specs.Asks.{offsets_at, Placed, Weighable};
 ghost use Rattle.listing.specs.Listing.{ListedIs};
 
-use load::{Tables, Weighed};
+use load::Tables;
+pub use load::Weighed;
 use rules::{LentNet, LentPlacement, Refusal};
 
 // What each entry drives, in list order, into a column that has room.

@@ -1,24 +1,49 @@
 -- `carry::carry` meets its contract: the refusals in their order, and then the cut (Carrying.antt).
-use Rattle.carry.proofs.Carrying.{first_refused, first_sound, second_refused, second_sound, ease_refused, check_refused, on_wires_lem, all_carried}
+use mathlib.Core.Path.{sym, ◌∙◌}
+use Rattle.std.proofs.lemmas.Result.{err_from_is_err_and}
+use Rattle.rules.proofs.SoundSays.{sound_says}
+use Rattle.carry.proofs.Carrying.{mapped_ok, mapped_err, first_refused, second_refused, ease_refused, check_refused, on_wires_lem, all_carried}
 use Rattle.carry.proofs.carry.Goals as goal
 
-pub returns-in-Refused : goal.returns-in-Refused
-returns-in-Refused c = first_refused _ _ c.args.wires.now c.args.offsets.now _ c.judge-one.ensures _ c.in-Refused.is
+pub returns-in_err-map_err : goal.returns-in_err-map_err
+returns-in_err-map_err c =
+    let p = err_from_is_err_and c.from_residual.result c.from_residual.ensures.1 in
+    let (r, e, q) = mapped_err _ _ c.in_err-map_err.ensures.cases in
+    rw (p.1, p.2, q) (first_refused _ _ c.args.wires.now c.args.offsets.now r (e ∙ c.judge.ensures))
 
-pub returns-in-Refused-two : goal.returns-in-Refused-two
-returns-in-Refused-two c = second_refused _ _ c.args.wires.now c.args.offsets.now _ c.judge-one.ensures c.in_default.is _ c.judge-two.ensures _ c.in-Refused-two.is
+pub returns-in_err-map_err-2 : goal.returns-in_err-map_err-2
+returns-in_err-map_err-2 c =
+    let p = err_from_is_err_and c.from_residual-in_err-map_err-2.result c.from_residual-in_err-map_err-2.ensures.1 in
+    let (r, e, q) = mapped_err _ _ c.in_err-map_err-2.ensures.cases in
+    rw (p.1, p.2, q) (second_refused _ _ c.args.wires.now c.args.offsets.now (mapped_ok _ _ c.in_ok-map_err.ensures.cases ∙ c.judge.ensures) r (e ∙ c.judge-2.ensures))
 
-pub judge_ease-eased-requires : goal.judge_ease-eased-requires
-judge_ease-eased-requires c = record { sound_net = first_sound _ _ c.args.wires.now c.args.offsets.now _ c.judge-one.ensures c.in_default.is _ c.judge-two.ensures; sound_net_2 = second_sound _ _ c.args.wires.now c.args.offsets.now _ c.judge-one.ensures c.in_default.is _ c.judge-two.ensures c.in_default-two.is }
+pub judge_ease-requires : goal.judge_ease-requires
+judge_ease-requires c = record { sound = (sound_says _ (sym (mapped_ok _ _ c.in_ok-map_err.ensures.cases ∙ c.judge.ensures)), sound_says _ (sym (mapped_ok _ _ c.in_ok-map_err-2.ensures.cases ∙ c.judge-2.ensures))) }
 
-pub returns-in-Refused-eased : goal.returns-in-Refused-eased
-returns-in-Refused-eased c = ease_refused _ _ c.args.wires.now c.args.offsets.now _ c.judge-one.ensures c.in_default.is _ c.judge-two.ensures c.in_default-two.is _ c.judge_ease-eased.ensures _ c.in-Refused-eased.is
+pub returns-in_err-map_err-3 : goal.returns-in_err-map_err-3
+returns-in_err-map_err-3 c =
+    let p = err_from_is_err_and c.from_residual-in_err-map_err-3.result c.from_residual-in_err-map_err-3.ensures.1 in
+    let (r, e, q) = mapped_err _ _ c.in_err-map_err-3.ensures.cases in
+    rw (p.1, p.2, q)
+    (ease_refused _ _ c.args.wires.now c.args.offsets.now (mapped_ok _ _ c.in_ok-map_err.ensures.cases ∙ c.judge.ensures) (mapped_ok _ _ c.in_ok-map_err-2.ensures.cases ∙ c.judge-2.ensures) r (e ∙ c.judge_ease.ensures))
 
-pub returns-in-Refused-verdict : goal.returns-in-Refused-verdict
-returns-in-Refused-verdict c = check_refused _ _ c.args.wires.now c.args.offsets.now _ c.judge-one.ensures c.in_default.is _ c.judge-two.ensures c.in_default-two.is _ c.judge_ease-eased.ensures c.in_default-eased.is _ c.check-verdict.ensures _ c.in-Refused-verdict.is
+pub returns-in_err-map_err-4 : goal.returns-in_err-map_err-4
+returns-in_err-map_err-4 c =
+    let p = err_from_is_err_and c.from_residual-in_err-map_err-4.result c.from_residual-in_err-map_err-4.ensures.1 in
+    let (r, e, q) = mapped_err _ _ c.in_err-map_err-4.ensures.cases in
+    rw (p.1, p.2, q)
+    (check_refused _ _ c.args.wires.now c.args.offsets.now
+    (mapped_ok _ _ c.in_ok-map_err.ensures.cases ∙ c.judge.ensures) (mapped_ok _ _ c.in_ok-map_err-2.ensures.cases ∙ c.judge-2.ensures) (mapped_ok _ _ c.in_ok-map_err-3.ensures.cases ∙ c.judge_ease.ensures)
+    r (e ∙ c.check.ensures))
 
 pub cut_to-requires : goal.cut_to-requires
-cut_to-requires c = on_wires_lem _ _ c.args.wires.now c.args.offsets.now _ c.judge-one.ensures c.in_default.is _ c.judge-two.ensures c.in_default-two.is _ c.judge_ease-eased.ensures c.in_default-eased.is _ c.check-verdict.ensures _ _ c.in_default-verdict.is
+cut_to-requires c =
+    on_wires_lem _ _ c.args.wires.now c.args.offsets.now
+    (mapped_ok _ _ c.in_ok-map_err.ensures.cases ∙ c.judge.ensures) (mapped_ok _ _ c.in_ok-map_err-2.ensures.cases ∙ c.judge-2.ensures) (mapped_ok _ _ c.in_ok-map_err-3.ensures.cases ∙ c.judge_ease.ensures)
+    _ (mapped_ok _ _ c.in_ok-map_err-4.ensures.cases ∙ c.check.ensures)
 
 pub returns : goal.returns
-returns c = all_carried _ _ c.args.wires.now c.args.offsets.now _ c.judge-one.ensures c.in_default.is _ c.judge-two.ensures c.in_default-two.is _ c.judge_ease-eased.ensures c.in_default-eased.is _ c.check-verdict.ensures _ _ c.in_default-verdict.is _ c.cut_to.ensures
+returns c =
+    all_carried _ _ c.args.wires.now c.args.offsets.now
+    (mapped_ok _ _ c.in_ok-map_err.ensures.cases ∙ c.judge.ensures) (mapped_ok _ _ c.in_ok-map_err-2.ensures.cases ∙ c.judge-2.ensures) (mapped_ok _ _ c.in_ok-map_err-3.ensures.cases ∙ c.judge_ease.ensures)
+    _ (mapped_ok _ _ c.in_ok-map_err-4.ensures.cases ∙ c.check.ensures) _ c.cut_to.ensures
