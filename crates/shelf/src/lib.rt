@@ -7,7 +7,8 @@ ghost use Rattle.audit_line.specs.Lines.{most_line};
 ghost use Rattle.whole.specs.Whole.{NetHeld};
 
 use audit_line::{Audited, Missing};
-use names::Name;
+use names::{NameReader, NoFile, NoName};
+use reply::Status;
 use std::io::{Read, Write};
 use std::rt::Files;
 use tally::{Found, Tally};
@@ -15,38 +16,36 @@ use tally::{Found, Tally};
 // A proved loop has to end. No shelf has so many records.
 const MOST_RECORDS: u64 = 4294967296;
 
-const NAME: usize = 4096;
+// A name, and room for one byte that is too many.
+const NAME: usize = names::MOST_NAME + 1;
 
 // A name in its longest form, four characters a byte, and what is said of it.
-const LINE: usize = 16512;
-
-const SAID: usize = 128;
+const LINE: usize = 4 * NAME + 128;
 
 // The name of a placement file.
-const PATH: usize = 4104;
+const PATH: usize = NAME + 8;
 
 // The bytes of a file that are taken in: they decide, whatever comes after them (RULES 11.3).
 const NET: usize = 16384;
 
 const PLACEMENT: usize = 65536;
 
-// How an audit ends: with a status after the tally, or without one.
+// Why an audit ends without a tally.
 #[derive(Clone, Copy)]
-pub enum Ended {
-    Status(u8),
+pub enum Stopped {
     NoOutput,
     NoNames,
     LongName,
     TooMany,
 }
 
-#[derive(Clone, Copy)]
-enum Step {
-    Found(Found),
-    End,
-    NoOutput,
-    NoNames,
-    LongName,
+impl From<NoName> for Stopped {
+    fn from(why: NoName) -> Stopped {
+        match why {
+            NoName::Failed => Stopped::NoNames,
+            NoName::TooLong => Stopped::LongName,
+        }
+    }
 }
 
 // A line for a file that is not there or cannot be read.
@@ -54,9 +53,8 @@ fn missing(which: Missing, out: &mut [u8]) -> Audited
     requires { most_line ≤ length out.old }
     ensures { result.bytes ≤ length out.new }
 {
-    let bytes = audit_line::missing_line(which, out);
     Audited {
-        bytes: bytes,
+        bytes: audit_line::missing_line(which, out),
         found: Found::Unread,
     }
 }
@@ -75,15 +73,11 @@ fn look_beside<F: Files>(
     let mut path = [0u8; PATH];
     let size = names::beside(name, &mut path);
     let mut placement = [0u8; PLACEMENT];
-    let read = names::read_file(files, &path[..size], &mut placement);
-    if names::missing(read) {
-        return missing(Missing::NoPlacement, out);
+    match names::read_file(files, &path[..size], &mut placement) {
+        Ok(count2) => whole::audit(net, count, &placement, count2, out),
+        Err(NoFile::Missing) => missing(Missing::NoPlacement, out),
+        Err(NoFile::Unreadable) => missing(Missing::PlacementUnreadable, out),
     }
-    if names::unreadable(read) {
-        return missing(Missing::PlacementUnreadable, out);
-    }
-    let count2 = names::count(read);
-    whole::audit(net, count, &placement, count2, out)
 }
 
 // What is said of a record.
@@ -92,62 +86,45 @@ fn look<F: Files>(files: &F, name: &[u8], out: &mut [u8]) -> Audited
     ensures { result.bytes ≤ length out.new }
 {
     let mut net = [0u8; NET];
-    let read = names::read_file(files, name, &mut net);
-    if names::missing(read) {
-        return missing(Missing::NoNet, out);
+    match names::read_file(files, name, &mut net) {
+        Ok(count) => look_beside(files, name, &net, count, out),
+        Err(NoFile::Missing) => missing(Missing::NoNet, out),
+        Err(NoFile::Unreadable) => missing(Missing::NetUnreadable, out),
     }
-    if names::unreadable(read) {
-        return missing(Missing::NetUnreadable, out);
-    }
-    let count = names::count(read);
-    look_beside(files, name, &net, count, out)
 }
 
 // A record's line, written as soon as it is known: an output that takes no more ends the audit there.
-fn record<F: Files, O: Write>(files: &F, output: &mut O, name: &[u8]) -> Step
+fn record<F: Files, O: Write>(files: &F, output: &mut O, name: &[u8]) -> Result<Found, Stopped>
     requires { length name.now ≤ 4096 }
 {
     let mut line = [0u8; LINE];
     let at = names::put_name(&mut line, name);
-    let mut said = [0u8; SAID];
-    let audited = look(files, name, &mut said);
-    let bytes = audited.bytes;
-    let found = audited.found;
-    let size = answer::put(&mut line, at, &said[..bytes]);
-    match output.write_all(&line[..size]) {
-        Ok(()) => Step::Found(found),
-        Err(_) => Step::NoOutput,
-    }
+    let audited = look(files, name, &mut line[at..]);
+    write(output, &line[..at + audited.bytes])?;
+    Ok(audited.found)
 }
 
+fn write<O: Write>(output: &mut O, line: &[u8]) -> Result<(), Stopped> {
+    output.write_all(line).map_err(|_| Stopped::NoOutput)
+}
+
+// What was found of the next record, or none after the last.
 fn next<F: Files, N: Read, O: Write>(
     files: &F,
     listed: &mut N,
     output: &mut O,
-    chunk: &mut [u8; names::CHUNK],
-    window: &mut [usize; 2],
-) -> Step {
+    names: &mut NameReader,
+) -> Result<Option<Found>, Stopped> {
     let mut name = [0u8; NAME];
-    let found = names::next(listed, chunk, window, &mut name);
-    if names::stands(found) {
-        let size = names::size(found);
-        return record(files, output, &name[..size]);
-    }
-    no_name(found)
-}
-
-fn no_name(found: Name) -> Step {
-    match found {
-        Name::Bytes(_) => Step::NoNames,
-        Name::End => Step::End,
-        Name::Failed => Step::NoNames,
-        Name::TooLong => Step::LongName,
+    match names.next(listed, &mut name)? {
+        Some(size) => Ok(Some(record(files, output, &name[..size])?)),
+        None => Ok(None),
     }
 }
 
 // The line of a terminal is written over, now and then. What cannot be shown there is not shown.
 fn show_progress<P: Write>(progress: &mut P, done: u64, total: &[u8]) {
-    if (total.len() == 0) | (done % 16 != 0) {
+    if total.is_empty() || done % 16 != 0 {
         return;
     }
     let _ = write!(progress, "\r{done} of ");
@@ -155,23 +132,11 @@ fn show_progress<P: Write>(progress: &mut P, done: u64, total: &[u8]) {
     let _ = progress.write_all(b" records");
 }
 
-fn put_tally<O: Write>(output: &mut O, tally: Tally) -> Ended {
+fn put_tally<O: Write>(output: &mut O, tally: Tally) -> Result<Status, Stopped> {
     let mut line = [0u8; 192];
-    let size = tally::tally_line(tally, &mut line);
-    match output.write_all(&line[..size]) {
-        Ok(()) => Ended::Status(tally::status(tally)),
-        Err(_) => Ended::NoOutput,
-    }
-}
-
-fn close<O: Write>(output: &mut O, last: Step, tally: Tally) -> Ended {
-    match last {
-        Step::Found(_) => Ended::TooMany,
-        Step::End => put_tally(output, tally),
-        Step::NoOutput => Ended::NoOutput,
-        Step::NoNames => Ended::NoNames,
-        Step::LongName => Ended::LongName,
-    }
+    let size = tally.line(&mut line);
+    write(output, &line[..size])?;
+    Ok(tally.status())
 }
 
 // Every name that is listed, its files among the files, its line on the output. What total says goes into the progress that is shown;
@@ -182,25 +147,15 @@ pub fn audit<F: Files, N: Read, O: Write, P: Write>(
     output: &mut O,
     progress: &mut P,
     total: &[u8],
-) -> Ended {
-    let mut chunk = [0u8; names::CHUNK];
-    let mut window = [0usize; 2];
-    let mut tally = Tally {
-        records: 0,
-        least: 0,
-        legal: 0,
-        refused: 0,
-        unread: 0,
-    };
-    let mut left = MOST_RECORDS;
-    while left > 0 {
-        let step = next(files, listed, output, &mut chunk, &mut window);
-        let Step::Found(found) = step else {
-            return close(output, step, tally);
+) -> Result<Status, Stopped> {
+    let mut names = NameReader::new();
+    let mut tally = Tally::default();
+    while tally.records < MOST_RECORDS {
+        let Some(found) = next(files, listed, output, &mut names)? else {
+            return put_tally(output, tally);
         };
-        tally = tally::count(tally, found);
+        tally.count(found);
         show_progress(progress, tally.records, total);
-        left -= 1;
     }
-    Ended::TooMany
+    Err(Stopped::TooMany)
 }

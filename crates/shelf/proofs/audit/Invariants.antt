@@ -1,10 +1,10 @@
 -- `audit` counts each record, and ends.
-use Rattle.std.proofs.Common.{◌≤◌, ◌+◌}
+use Rattle.std.proofs.Common.{◌-◌}
 use Rattle.tally.specs.Tallied.{Sums}
 use Rattle.shelf.proofs.audit.Given as goal
 
-abbrev pub invariant-loop-left : goal.invariant-loop-left
-invariant-loop-left g l = Sums l.tally × (l.tally.records + l.left ≤ 4294967296)
+abbrev pub invariant-loop-tally : goal.invariant-loop-tally
+invariant-loop-tally g l = Sums l.tally
 
-abbrev pub decreases-loop-left : goal.decreases-loop-left
-decreases-loop-left g l = l.left
+abbrev pub decreases-loop-tally : goal.decreases-loop-tally
+decreases-loop-tally g l = 4294967296 - l.tally.records
