@@ -1,5 +1,6 @@
 -- The numbers of the call from C: it answers k exactly where the cases below say so, and so no other number. Its columns always fit and its net is always sound,
 -- so of the checker's numbers it gives those of a placement alone.
+use Rattle.std.specs.Prelude.{Ok}
 use Prim.Native.Nat.{ℕ, ◌≤◌}
 use native.Mathlib.Omega.{arith}
 use mathlib.Core.Path.{◌≡◌, refl, sym, ◌∙◌}
@@ -8,7 +9,6 @@ use mathlib.Core.List.{List, map}
 use lib.ListN.{length-map}
 use Rattle.rules.specs.declared.Entry.{Entry}
 use Rattle.rules.specs.declared.Refusal.{Refusal}
-use Rattle.rules.specs.declared.Judged.TheVariants.{Sound}
 use Rattle.rules.specs.Refusal.{number_of, judged_number}
 use Rattle.rules.specs.Net.{Net}
 use Rattle.rules.specs.Judge.{judged}
@@ -38,7 +38,7 @@ pub data RouteGives (net placement : List ℕ) (k : ℕ) : Type 0 where
 module _ (net placement : List ℕ) (bytes : AreBytes net) where
   -- a net and a placement that were read: the net is sound, and the columns fit
   module _ {n : Net} {es : List Entry} (a : net_file.net_of net ≡ net_file.read n) (b : placement_file.placement_of placement ≡ placement_file.placement es) where
-    sound : judged n ≡ Sound
+    sound : judged n ≡ Ok tt
     sound = (same_bytes net n bytes a).sound
 
     fits : PlacementFits (map wire es) (map offset es)
