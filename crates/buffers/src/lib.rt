@@ -21,6 +21,7 @@ pub const PLACES: usize = 1025;
 
 // What lies below each node; what each wire hands up, and how many buffers stand atop it for its parent's sake, none or one; and links that chain each node's wires,
 // by index, since there is no heap: a link past the table ends a chain.
+#[derive(Drop)]
 pub struct Tables {
     pub below: [u32; PLACES],
     pub tops: [u32; PLACES],

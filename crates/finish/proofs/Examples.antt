@@ -1,4 +1,5 @@
 -- Half-buffered nets on both sides of each line, C_U 10 and C_b 2: the least number to add by marks that are right, and refusals in their order.
+use Rattle.std.specs.Prelude.{Ok, Err}
 use Prim.Native.Nat.{ℕ, zero, suc, ◌≤◌, ◌<◌}
 use mathlib.Core.Path.{◌≡◌, refl}
 use mathlib.Core.List.{List, [], ◌∷◌}
@@ -7,7 +8,6 @@ use native.Mathlib.Omega.{arith}
 use Rattle.rules.specs.declared.Limits.{Limits}
 use Rattle.rules.specs.declared.Entry.{Entry}
 use Rattle.rules.specs.declared.Refusal.TheVariants.{OutOfRange, WrongColumns, Misplaced}
-use Rattle.rules.specs.declared.Judged.TheVariants.{Sound, Refused}
 use Rattle.rules.specs.Net.{Net, kind}
 use Rattle.rules.specs.Tree.{hanging, under}
 use Rattle.rules.specs.Load.{offsets_on, entries}
@@ -65,7 +65,7 @@ lone_marked w c g h = record { fits = fits; sinks = sinks; nodes = nodes }
     nodes (suc zero) lo hi k = absurd (omega arith)
     nodes (suc (suc v)) lo hi k = absurd (omega arith)
 
-adds : (w c : ℕ) (g : List Entry) → judged (lone w c) ≡ Sound → c ≤ 10 → InOrder (lone w c) start g → LeastAdded (lone w c) g (length (placed (lone w c) (added_at τ (lone w c) (offsets_on g) (lone_marks w c g))))
+adds : (w c : ℕ) (g : List Entry) → judged (lone w c) ≡ Ok tt → c ≤ 10 → InOrder (lone w c) start g → LeastAdded (lone w c) g (length (placed (lone w c) (added_at τ (lone w c) (offsets_on g) (lone_marks w c g))))
 adds w c g s h o = least_added (sound_says (lone w c) s) refl g o (lone_marks w c g) (lone_marked w c g h)
 
 legal_already : LeastAdded (lone 14 4) (on 1 6 ∷ []) 0
@@ -142,14 +142,14 @@ five_sinks =
     nodes (suc (suc (suc (suc (suc (suc v)))))) lo hi k = absurd (omega arith)
 
 -- ---- refusals in their order: type 1 before unequal columns, columns before entries
-type_first : half_judged (net_of (limits 1 10 2) (plus 0 6 4 ∷ [])) (1 ∷ []) [] ≡ Refused (OutOfRange 0)
+type_first : half_judged (net_of (limits 1 10 2) (plus 0 6 4 ∷ [])) (1 ∷ []) [] ≡ Err (OutOfRange 0)
 unfolding half_judged judged judge_each children placed_from entries
 type_first = refl
 
-then_columns : half_judged (lone 6 4) (9 ∷ []) [] ≡ Refused WrongColumns
+then_columns : half_judged (lone 6 4) (9 ∷ []) [] ≡ Err WrongColumns
 unfolding half_judged judged judge_each children placed_from entries
 then_columns = refl
 
-then_order : half_judged (lone 6 4) (1 ∷ 1 ∷ []) (3 ∷ 2 ∷ []) ≡ Refused (Misplaced 1)
+then_order : half_judged (lone 6 4) (1 ∷ 1 ∷ []) (3 ∷ 2 ∷ []) ≡ Err (Misplaced 1)
 unfolding half_judged judged judge_each children placed_from entries
 then_order = refl

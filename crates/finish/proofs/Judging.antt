@@ -1,18 +1,17 @@
 -- What is judged before a net is finished, in its order.
+use Rattle.std.specs.Prelude.{Ok, Err, Result}
 use Prim.Native.Nat.{ℕ}
 use mathlib.Core.Path.{◌≡◌, refl, sym, subst}
 use mathlib.Core.List.{List}
 use lib.ListN.{length}
 use lib.Dec.{eqb, leb}
 use borrow.Author.Tests.{eq-eqb, ne_eqb, eqb-true, leb-true}
-use Rattle.rules.specs.declared.Limits.{Limits}
 use Rattle.rules.specs.declared.Entry.{Entry}
 use Rattle.rules.specs.declared.Refusal.{Refusal}
 use Rattle.rules.specs.declared.Refusal.TheVariants.{OutOfRange, WrongColumns}
-use Rattle.rules.specs.declared.Judged.{Judged}
-use Rattle.rules.specs.declared.Judged.TheVariants as judge
+use Rattle.rules.specs.Judged.{Judged}
 use Rattle.rules.specs.Figures.{most_entries}
-use Rattle.rules.specs.Net.{Net, net}
+use Rattle.rules.specs.Net.{Net}
 use Rattle.rules.specs.Load.{entries}
 use Rattle.rules.specs.Legal.{start}
 use Rattle.rules.specs.Judge.{unless, then_judge, judged}
@@ -23,20 +22,18 @@ use Rattle.rules.proofs.Tests.{both_met, unless_met, then_met}
 use Rattle.rules.proofs.LegalJudged.{placed_order}
 use Rattle.standing.specs.Stands.{stood}
 use Rattle.adding.specs.Given.{Stood}
-use Rattle.finish.specs.declared.Finished.{Finished}
-use Rattle.finish.specs.declared.Finished.TheVariants.{Refused}
 use Rattle.finish.specs.Answer.{half_judged, Outcome, Answered}
 
 module _ (n : Net) (ws os : List ℕ) where
-  pub half_own : {x : Refusal} → judged n ≡ judge.Refused x → judge.Refused x ≡ half_judged n ws os
+  pub half_own : {x : Refusal} → judged n ≡ Err x → Err x ≡ half_judged n ws os
   unfolding half_judged
   half_own e = rw e
 
-  pub half_type : judged n ≡ judge.Sound → (n.limits.repeater ≡ 0 → ⊥) → judge.Refused (OutOfRange 0) ≡ half_judged n ws os
+  pub half_type : judged n ≡ Ok tt → (n.limits.repeater ≡ 0 → ⊥) → Err (OutOfRange 0) ≡ half_judged n ws os
   unfolding half_judged
   half_type e ne = rw (e, ne_eqb n.limits.repeater 0 ne)
 
-  pub half_rest : (r : Judged) → judged n ≡ judge.Sound → n.limits.repeater ≡ 0 → r ≡ stood n ws os → r ≡ half_judged n ws os
+  pub half_rest : (r : Judged) → judged n ≡ Ok tt → n.limits.repeater ≡ 0 → r ≡ stood n ws os → r ≡ half_judged n ws os
   unfolding half_judged
   half_rest r e z q = rw (e, eq-eqb n.limits.repeater 0 z) q
 
@@ -45,7 +42,7 @@ module _ (n : Net) (ws os : List ℕ) where
     pub buffers : n.limits.repeater ≡ 0
     pub stood : Stood n ws os
 
-  pub half_sound : half_judged n ws os ≡ judge.Sound → Ready
+  pub half_sound : half_judged n ws os ≡ Ok tt → Ready
   unfolding half_judged
   half_sound e =
       let (s, x) = then_met (judged n) (then_judge (unless (eqb n.limits.repeater 0) (OutOfRange 0)) (stood n ws os)) e in
@@ -58,10 +55,8 @@ module _ (n : Net) (ws os : List ℕ) where
         stood = record { same = eqb-true (length os) (length ws) a; few = leb-true (length ws) most_entries b; order = placed_order n start 0 (entries ws os) p };
       }
 
-pub refused : (j : Judged) (n : Net) (g : List Entry) (ws os : List ℕ) {x : Refusal} → j ≡ judge.Refused x → Answered j n g ws os ws os (Refused x)
-refused j n g ws os {x} e = subst (λ (j : Judged). Answered j n g ws os ws os (Refused x)) (sym e) (refl, record { wires = refl; offsets = refl })
+pub refused : (j : Judged) (n : Net) (g : List Entry) (ws os : List ℕ) {x : Refusal} → j ≡ Err x → Answered j n g ws os ws os (Err x)
+refused j n g ws os {x} e = subst (λ (j : Judged). Answered j n g ws os ws os (Err x)) (sym e) (refl, record { wires = refl; offsets = refl })
 
--- the net of the limits l is that of the limits a
-pub answered : {a l : Limits} {p w k c q ws os ws' os' : List ℕ} {g : List Entry} {r : Finished} (j : Judged) → a ≡ l → j ≡ judge.Sound → Outcome (net a p w k c q) g ws os ws' os' r → Answered j (net l p w k c q) g ws os ws' os' r
-answered {a} {l} {p} {w} {k} {c} {q} {ws} {os} {ws'} {os'} {g} {r} j f e o =
-    subst (λ (j : Judged). Answered j (net l p w k c q) g ws os ws' os' r) (sym e) (subst (λ (x : Limits). Outcome (net x p w k c q) g ws os ws' os' r) f o)
+pub answered : (j : Judged) {n : Net} {g : List Entry} {ws os ws' os' : List ℕ} {r : Result ℕ Refusal} → j ≡ Ok tt → Outcome n g ws os ws' os' r → Answered j n g ws os ws' os' r
+answered j {n} {g} {ws} {os} {ws'} {os'} {r} e o = subst (λ (j : Judged). Answered j n g ws os ws' os' r) (sym e) o

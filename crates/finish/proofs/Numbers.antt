@@ -1,4 +1,6 @@
 -- The finisher's numbers: it answers k exactly where the cases below say so, and so no other number (RULES 8.4, 8.5, 8.7).
+use Rattle.std.specs.Prelude.{Ok, Err, Result}
+use Rattle.rules.specs.declared.Refusal.{Refusal}
 use Prim.Native.Nat.{ℕ, ◌≤◌, ◌<◌}
 use mathlib.Core.Path.{◌≡◌, refl, sym, ap, ◌∙◌}
 use mathlib.Core.Logic.{◌↔◌, ◌⊎◌, inl, inr}
@@ -7,8 +9,7 @@ use native.Mathlib.Omega.{arith}
 use lib.Dec.{eqb}
 use borrow.Author.Tests.{eq-eqb, eqb-true}
 use Rattle.rules.specs.declared.Refusal.TheVariants.{OutOfRange, WrongColumns}
-use Rattle.rules.specs.declared.Judged.{Judged}
-use Rattle.rules.specs.declared.Judged.TheVariants as judge
+use Rattle.rules.specs.Judged.{Judged}
 use Rattle.rules.specs.Net.{Net}
 use Rattle.rules.specs.Load.{entries}
 use Rattle.rules.specs.Legal.{InOrder, start}
@@ -25,13 +26,12 @@ use Rattle.rules.proofs.Numbers.{PlacementFits, columns_tested, NetRefuses, NetN
 use Rattle.rules.proofs.Numbers as rules
 use Rattle.columns.specs.Columns.{room_in}
 use Rattle.standing.specs.Stands.{stood}
-use Rattle.finish.specs.declared.Finished.{Finished}
 use Rattle.finish.specs.Answer as answer
 use Rattle.finish.specs.Answer.{half_judged, Outcome, Answered, finished_number, finished_count}
 
 -- a sound net of buffers, and given entries that stand on it in order
 pub record Half (n : Net) (gw go : List ℕ) : Type 0 where
-  pub sound : judged n ≡ judge.Sound
+  pub sound : judged n ≡ Ok tt
   pub buffers : n.limits.repeater ≡ 0
   pub fit : PlacementFits gw go
   pub order : InOrder n start (entries gw go)
@@ -39,9 +39,9 @@ pub record Half (n : Net) (gw go : List ℕ) : Type 0 where
 -- what the number k says of a net and given entries before anything is searched
 pub data HalfGives (n : Net) (gw go : List ℕ) (k : ℕ) : Type 0 where
   of_net : NetRefuses n k → HalfGives n gw go k
-  inverters : k ≡ 3 → judged n ≡ judge.Sound → (n.limits.repeater ≡ 0 → ⊥) → HalfGives n gw go k
-  wrong_columns : k ≡ 7 → judged n ≡ judge.Sound → n.limits.repeater ≡ 0 → (PlacementFits gw go → ⊥) → HalfGives n gw go k
-  misplaced : k ≡ 10 → judged n ≡ judge.Sound → n.limits.repeater ≡ 0 → PlacementFits gw go → (InOrder n start (entries gw go) → ⊥) → HalfGives n gw go k
+  inverters : k ≡ 3 → judged n ≡ Ok tt → (n.limits.repeater ≡ 0 → ⊥) → HalfGives n gw go k
+  wrong_columns : k ≡ 7 → judged n ≡ Ok tt → n.limits.repeater ≡ 0 → (PlacementFits gw go → ⊥) → HalfGives n gw go k
+  misplaced : k ≡ 10 → judged n ≡ Ok tt → n.limits.repeater ≡ 0 → PlacementFits gw go → (InOrder n start (entries gw go) → ⊥) → HalfGives n gw go k
   ready : k ≡ 0 → Half n gw go → HalfGives n gw go k
 
 buffers_tested : (n : Net) → Tests (unless (eqb n.limits.repeater 0) (OutOfRange 0)) (n.limits.repeater ≡ 0) 3
@@ -61,21 +61,21 @@ module _ (n : Net) (gw go : List ℕ) where
   unfolding third second
   given_half = by_net (judged n) refl
     where
-      by_order : judged n ≡ judge.Sound → n.limits.repeater ≡ 0 → PlacementFits gw go → Tested (placed_from n start 0 (entries gw go)) (InOrder n start (entries gw go)) 10 → HalfGives n gw go (judged_number (placed_from n start 0 (entries gw go)))
+      by_order : judged n ≡ Ok tt → n.limits.repeater ≡ 0 → PlacementFits gw go → Tested (placed_from n start 0 (entries gw go)) (InOrder n start (entries gw go)) 10 → HalfGives n gw go (judged_number (placed_from n start 0 (entries gw go)))
       by_order s b fit (held e o) = rw e (ready refl (record { sound = s; buffers = b; fit = fit; order = o }))
       by_order s b fit (failed e c not) = rw e (misplaced c s b fit not)
 
-      by_columns : judged n ≡ judge.Sound → n.limits.repeater ≡ 0 → Tested (unless (placement_fits gw go) WrongColumns) (PlacementFits gw go) 7 → HalfGives n gw go (judged_number third)
+      by_columns : judged n ≡ Ok tt → n.limits.repeater ≡ 0 → Tested (unless (placement_fits gw go) WrongColumns) (PlacementFits gw go) 7 → HalfGives n gw go (judged_number third)
       by_columns s b (held e fit) = rw e (by_order s b fit (tested (order_tested n (entries gw go))))
       by_columns s b (failed e c not) = rw e (wrong_columns c s b not)
 
-      by_type : judged n ≡ judge.Sound → Tested (unless (eqb n.limits.repeater 0) (OutOfRange 0)) (n.limits.repeater ≡ 0) 3 → HalfGives n gw go (judged_number second)
+      by_type : judged n ≡ Ok tt → Tested (unless (eqb n.limits.repeater 0) (OutOfRange 0)) (n.limits.repeater ≡ 0) 3 → HalfGives n gw go (judged_number second)
       by_type s (held e b) = rw e (by_columns s b (tested (columns_tested gw go)))
       by_type s (failed e c not) = rw e (inverters c s not)
 
       by_net : (j : Judged) → judged n ≡ j → HalfGives n gw go (judged_number (then_judge j second))
-      by_net judge.Sound e = by_type e (tested (buffers_tested n))
-      by_net (judge.Refused x) e = of_net (record { refusal = x; refused = e; number = refl })
+      by_net (Ok _) e = by_type e (tested (buffers_tested n))
+      by_net (Err x) e = of_net (record { refusal = x; refused = e; number = refl })
 
   alone_half : (k : ℕ) → HalfGives n gw go k → judged_number (then_judge (judged n) second) ≡ k
   unfolding third second
@@ -92,10 +92,10 @@ module _ (n : Net) (gw go : List ℕ) where
   unfolding half_judged third second
   half_numbers = exactly_where (HalfGives n gw go) (judged_number (then_judge (judged n) second)) given_half alone_half
 
-  half_sound : Half n gw go → half_judged n gw go ≡ judge.Sound
+  half_sound : Half n gw go → half_judged n gw go ≡ Ok tt
   half_sound h = none_given (half_judged n gw go) ((half_numbers 0).1 (ready refl h))
 
-  sound_half : half_judged n gw go ≡ judge.Sound → Half n gw go
+  sound_half : half_judged n gw go ≡ Ok tt → Half n gw go
   sound_half e = by ((half_numbers 0).0 (ap judged_number e))
     where
       by : HalfGives n gw go 0 → Half n gw go
@@ -149,20 +149,20 @@ one (added e h m l o) (full f i p g u) = absurd (omega (arith, one_least_added l
 one (added e h m l o) (added f i p g u) = e ∙ sym f
 
 -- r is an answer as the contract of `finish` has it
-pub record Conforms (n : Net) (gw go ws os ws' os' : List ℕ) (r : Finished) : Type 0 where
+pub record Conforms (n : Net) (gw go ws os ws' os' : List ℕ) (r : Result ℕ Refusal) : Type 0 where
   pub answered : Answered (half_judged n gw go) n (entries gw go) ws os ws' os' r
 
-module _ {n : Net} {gw go ws os ws' os' : List ℕ} {r : Finished} (a : Conforms n gw go ws os ws' os' r) where
+module _ {n : Net} {gw go ws os ws' os' : List ℕ} {r : Result ℕ Refusal} (a : Conforms n gw go ws os ws' os' r) where
   given : FinishGives n gw go (room_in ws os) (finished_number r)
   given = by (half_judged n gw go) refl a.answered
     where
       by : (j : Judged) → half_judged n gw go ≡ j → Answered j n (entries gw go) ws os ws' os' r → FinishGives n gw go (room_in ws os) (finished_number r)
-      by (judge.Refused x) e b =
+      by (Err x) e b =
           let q : finished_number r ≡ number_of x = ap finished_number b.0 in
           refused (λ z. omega (arith, numbered x)) ((half_numbers n gw go (finished_number r)).0 (ap judged_number e ∙ sym q))
-      by judge.Sound e (answer.none h q k) = none (ap finished_number q) (sound_half n gw go e) h
-      by judge.Sound e (answer.full m l o q k) = full (ap finished_number q) (sound_half n gw go e) m l o
-      by judge.Sound e (answer.finished p c l o q k) = added (ap finished_number q) (sound_half n gw go e) _ l o
+      by (Ok _) e (answer.none h q k) = none (ap finished_number q) (sound_half n gw go e) h
+      by (Ok _) e (answer.full m l o q k) = full (ap finished_number q) (sound_half n gw go e) m l o
+      by (Ok _) e (answer.finished p c l o q k) = added (ap finished_number q) (sound_half n gw go e) _ l o
 
   pub finish_numbers : (k : ℕ) → (finished_number r ≡ k) ↔ FinishGives n gw go (room_in ws os) k
   finish_numbers = exactly_where (FinishGives n gw go (room_in ws os)) (finished_number r) given (λ k x. one given x)

@@ -1,18 +1,20 @@
 -- Each judgement is passed on in its order.
-use mathlib.Core.Path.{sym, ◌∙◌}
-use Rattle.rules.specs.Net.{net_at}
+use Rattle.std.proofs.Common.{sym}
+use Rattle.std.proofs.lemmas.Result.{err_from_is_err_and}
 use Rattle.rules.proofs.SoundSays.{sound_says}
 use Rattle.standing.proofs.Begun.{has_wires}
 use Rattle.finish.proofs.Judging.{half_own, half_type, half_rest}
 use Rattle.finish.proofs.judge_half.Goals as goal
 
-pub returns-in-Refused : goal.returns-in-Refused
-returns-in-Refused c = half_own (net_at c.args.limits c.args.parent c.args.wire c.args.kind c.args.pin c.args.polarity) c.args.given.now c.args.offsets.now (sym c.judge-own.ensures ∙ c.in-Refused.is)
+pub returns-in_err-judge : goal.returns-in_err-judge
+returns-in_err-judge c =
+    let p = err_from_is_err_and c.from_residual.result c.from_residual.ensures.1 in
+    rw (p.1, p.2) (half_own _ _ _ (sym c.in_err-judge.ensures))
 
-pub returns-then-repeater-ne0 : goal.returns-then-repeater-ne0
-returns-then-repeater-ne0 c = half_type (net_at c.args.limits c.args.parent c.args.wire c.args.kind c.args.pin c.args.polarity) c.args.given.now c.args.offsets.now (sym c.judge-own.ensures ∙ c.in_default.is) c.if-repeater-ne0.true
+pub returns-then-net-ne0 : goal.returns-then-net-ne0
+returns-then-net-ne0 c = half_type _ _ _ (sym c.in_ok-judge.ensures) c.if-net-ne0.true
 
 pub returns : goal.returns
 returns c =
-    let e = sym c.judge-own.ensures ∙ c.in_default.is in
-    half_rest (net_at c.args.limits c.args.parent c.args.wire c.args.kind c.args.pin c.args.polarity) c.args.given.now c.args.offsets.now c.entries_stand.result e c.if-repeater-ne0.false (c.entries_stand.ensures (net_at c.args.limits c.args.parent c.args.wire c.args.kind c.args.pin c.args.polarity) (has_wires (sound_says (net_at c.args.limits c.args.parent c.args.wire c.args.kind c.args.pin c.args.polarity) e)))
+    let sound = sym c.in_ok-judge.ensures in
+    half_rest _ _ _ _ sound c.if-net-ne0.false (c.entries_stand.ensures _ (has_wires (sound_says _ sound)))
