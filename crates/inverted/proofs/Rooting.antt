@@ -1,10 +1,13 @@
 -- The source: its state is the frontier's root, so a count there is the least and a lost state means that no placement is legal; and the walk from it ends in a least placement.
-use Prim.Native.Nat.{ℕ, zero, suc, ◌+◌, ◌-◌, ◌*◌, ◌≤◌, ◌<◌, min}
+use Prim.Native.Nat.{ℕ, zero, suc, ◌-◌, ◌*◌, ◌≤◌, ◌<◌, min}
 use mathlib.Core.Path.{◌≡◌, refl, sym, subst, ap, ◌∙◌}
-use mathlib.Core.List.{List, []}
+use mathlib.Core.List.{List}
+use Rattle.std.proofs.Common.{Bool, true, false, ltb}
+use Rattle.std.proofs.lemmas.Bool.{ltb-true, ltb-false}
+use mir.Val.{bool_byte}
 use native.Mathlib.Omega.{arith}
 use native.Mathlib.Decide.{ℕ_discrete}
-use lib.ListN.{length, get_or, set, replicate, length-set, length-replicate}
+use lib.ListN.{length, set, replicate, length-set, length-replicate}
 use lib.Seq.{get_or-set_same}
 use Rattle.rules.specs.declared.Entry.{Entry}
 use Rattle.rules.specs.Figures.{most_places}
@@ -28,7 +31,7 @@ use Rattle.surplus.specs.Pairs.{near_state}
 use Rattle.surplus.specs.Links.{First}
 use Rattle.surplus.specs.Dealt.{Dealt}
 use Rattle.surplus.specs.Choice.{Under, Budgeted}
-use Rattle.surplus.specs.Tables.{head_at, field, count_at, WiresJoined, NodesClosed, Filled}
+use Rattle.surplus.specs.Tables.{head_at, field, count_at, WiresJoined, NodesClosed}
 use Rattle.surplus.specs.Asks.{part_at, Asks, Out}
 use Rattle.surplus.specs.Descent.{Begun, Written}
 use Rattle.surplus.proofs.Bounds.{acc_small}
@@ -37,11 +40,11 @@ use Rattle.surplus.proofs.Pairs.{near_0}
 use Rattle.surplus.proofs.Dealing.{dealt_0}
 use Rattle.surplus.proofs.Passing.{hanging_each}
 use Rattle.surplus.proofs.Meeting.{slot_at, asks_under, not_ours}
-use Rattle.surplus.proofs.Filling.{own_first, node_is, joined_none, closed_none}
+use Rattle.surplus.proofs.Filling.{own_first, node_is}
 use Rattle.surplus.proofs.Deciding.{over_some, near_branch}
 use Rattle.surplus.proofs.Descending.{sense_at}
+use Rattle.tables.proofs.Starting.{get_or-zeros}
 use Rattle.walk.specs.Steps.{Handed}
-use Rattle.solution.specs.declared.Solved.TheVariants.{Placed}
 use Rattle.inverted.specs.Source.{at_sense, Picks, Rooted}
 
 -- ---- which polarity
@@ -69,27 +72,13 @@ picks_more a b m x y n u v e f h = record {
   is = λ N p q r. (x, y, e ∙ ap (λ (k : ℕ). has k x y) (let z : m ≡ N = omega (arith, least_of a b m x y n u v e f N p q r) in z));
 }
 
--- ---- the tables at the start
-zero_at_lem : (k j : ℕ) → get_or {A = ℕ} (replicate k 0) j 0 ≡ 0
-zero_at_lem zero j = refl
-zero_at_lem (suc k) zero = refl
-zero_at_lem (suc k) (suc j) = zero_at_lem k j
-
-pub filled_none : (τ : model.Cell) {n : Net} → SoundNet n
-    → Filled τ n (replicate (most_places * 2) 0) (replicate (most_places * 2) (replicate 4 0)) (set (set (replicate (most_places * 2) 0) 0 1) 1 1) (replicate (most_places * 2) (replicate 3 0)) (places n)
-filled_none τ {n} sound = record {
-  joined = joined_none τ sound (replicate (most_places * 2) 0) (replicate (most_places * 2) (replicate 4 0)) (set (set (replicate (most_places * 2) 0) 0 1) 1 1) (length-replicate {A = ℕ} (most_places * 2) 0)
-      (length-replicate {A = List ℕ} (most_places * 2) (replicate 4 0)) (simp length-set (length-replicate {A = ℕ} (most_places * 2) 0)) (λ v. zero_at_lem (most_places * 2) (v * 2 + 1)) end;
-  closed = closed_none τ (replicate (most_places * 2) (replicate 3 0)) (length-replicate {A = List ℕ} (most_places * 2) (replicate 3 0));
-}
+-- by their counts
+pub picks_by : (a b : State) (m x y n u v : ℕ) → a ≡ has m x y → b ≡ has n u v → Picks a b (bool_byte (ltb n m))
+picks_by a b m x y n u v e f = go (ltb n m) refl
   where
-    end : (p : ℕ) → p ≤ 1 → (count_at (set (set (replicate (most_places * 2) 0) 0 1) 1 1) p 0 ≡ 1) × (field (replicate (most_places * 2) (replicate 4 0)) p 0 2 ≡ 0) × (field (replicate (most_places * 2) (replicate 4 0)) p 0 3 ≡ 0)
-    end zero l = (refl, refl, refl)
-    end (suc zero) l = (refl, refl, refl)
-    end (suc (suc p)) l = absurd (omega arith)
-
-pub at_source : (near : List (List ℕ)) (p : ℕ) → get_or (get_or near p []) 2 0 ≡ field near p 0 2
-at_source near p = let e : 0 * 2 + p ≡ p = omega arith in rw e
+    go : (t : Bool) → ltb n m ≡ t → Picks a b (bool_byte t)
+    go true q = picks_less a b m x y n u v e f (ltb-true n m q)
+    go false q = picks_more a b m x y n u v e f (ltb-false n m q)
 
 -- ---- out of the tables
 module _ {c : Cell} (ok : CellOk c) {n : Net} (sound : SoundNet n) {links : List ℕ} {slots : List (List ℕ)} {sums : List ℕ} {near : List (List ℕ)}
@@ -153,7 +142,7 @@ module _ {c : Cell} (ok : CellOk c) {n : Net} (sound : SoundNet n) {links : List
         go (all m g) b = tt
 
     none_yet : (j : ℕ) → part_at (replicate most_places 0) j ≡ 0
-    none_yet j = zero_at_lem most_places j
+    none_yet j = get_or-zeros most_places j
 
     pub asks_source : Asks (model_of c) links slots (replicate most_places 0) p (head_at links 0) (tree n)
     asks_source =
@@ -209,5 +198,5 @@ module _ {c : Cell} (ok : CellOk c) {n : Net} (sound : SoundNet n) (same : limit
       placed_is_least sound N r.a r.b (root_here r.root) (sense_at senses 0) x.offs (subst (λ (τ : model.Cell). Settled τ (sense_at senses 0) (tree n) (plan_of x.offs (tree n))) cell_is x.settled) x.few
 
   -- a legal placement of as many entries as the root counts is least, and has room where that count has
-  pub least_placed : {p N room : ℕ} {l : List Entry} → Rooted (model_of c) n p N → Legal n l × (length l ≡ N) → N ≤ room → Least n (length l) × (length l ≤ room) × (Placed N ≡ Placed (length l))
-  least_placed {p} {N} {room} {l} r x h = let q : N ≡ length l = sym x.1 in (subst (Least n) q (least_there N r.a r.b r.root), omega arith, ap Placed q)
+  pub least_placed : {p N room : ℕ} {l : List Entry} → Rooted (model_of c) n p N → Legal n l × (length l ≡ N) → N ≤ room → Least n (length l) × (length l ≤ room)
+  least_placed {p} {N} {room} {l} r x h = let q : N ≡ length l = sym x.1 in (subst (Least n) q (least_there N r.a r.b r.root), omega arith)

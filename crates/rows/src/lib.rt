@@ -2,12 +2,12 @@
 // its wires and of each tail of them, are made in one scratch table.
 #![tactic(auto)]
 
-ghost use Rattle.std.specs.Prelude.{◌≡◌, ℕ, ◌+◌, ◌*◌, ◌<◌, ◌≤◌, min, length};
+ghost use Rattle.std.specs.Prelude.{◌≡◌, ℕ, ◌+◌, ◌*◌, ◌<◌, ◌≤◌, min, length, MatchOption};
 ghost use Rattle.rules.specs.Figures.{most_places, most_children};
 ghost use Rattle.rules.specs.Tree.{Hanging};
-ghost use Rattle.states.specs.States.{model_of, CellOk};
+ghost use Rattle.states.specs.States.{model_of};
 ghost use Rattle.surplus.specs.Rows.{load_at, mixed, Mixed, FirstFit};
-ghost use Rattle.surplus.specs.Tables.{lo_at, hi_at};
+ghost use Rattle.surplus.specs.Tables.{next_at, head_at, lo_at, hi_at};
 ghost use Rattle.surplus.specs.Asks.{Runs, Running, Rows, CloseIs, ClosedIs, AsksClose, AskedClose};
 
 use states::Cell;
@@ -22,22 +22,45 @@ const CHILDREN: usize = 8;
 
 pub const ROWS: usize = (CHILDREN + 1) * (CHILDREN + 1);
 
-// A link as a place.
-pub fn place(x: u16) -> usize
-    ensures { result ≡ x }
-{
-    x as usize
+// What is kept of the wires under each node. They are a chain, by two links for each place: a wire's next one and a node's first, 0 for none. A slot is of a wire and a
+// polarity: the wire's least load and that with one more, the same of the wires from it on, and in `sums` one more than their count.
+#[derive(Drop)]
+pub struct Chains {
+    pub links: [u16; SIDES],
+    pub slots: [[u32; 4]; SIDES],
+    pub sums: [u64; SIDES],
 }
 
-// The load for a surplus of e in the row at `at`, which no longer falls past `last`.
-pub fn load_at(rows: &[u32], at: usize, last: usize, e: usize) -> u64
-    requires { at + last < length rows.now }
-    ensures { result ≡ load_at rows.now at last e }
-{
-    if e < last {
-        return states::wide(rows[at + e]);
+impl Chains {
+    // The wire after wire j.
+    pub fn next(&self, j: usize) -> usize
+        requires { j < most_places }
+        ensures { result ≡ next_at self.now.links j }
+    {
+        self.links[j * 2] as usize
     }
-    states::wide(rows[at + last])
+
+    // The first wire under node v.
+    pub fn head(&self, v: usize) -> usize
+        requires { v < most_places }
+        ensures { result ≡ head_at self.now.links v }
+    {
+        self.links[v * 2 + 1] as usize
+    }
+
+    // What wire j hands up with 0, 1 or 2 of a surplus.
+    pub fn loads(&self, c: Cell, p: usize, j: usize) -> Loads
+        requires { (p ≤ 1) × (j < most_places) }
+        ensures { (result.least ≡ lo_at self.now.slots p j) × (result.one ≡ hi_at self.now.slots p j) × (result.two ≡ min (lo_at self.now.slots p j) c.pin) }
+    {
+        let own = self.slots[j * 2 + p];
+        let least = own[0] as u64;
+        Loads {
+            least,
+            one: own[1] as u64,
+            two: least.min(c.pin),
+        }
+    }
 }
 
 // What a wire hands up with 0, 1 or 2 of a surplus.
@@ -48,96 +71,73 @@ pub struct Loads {
     pub two: u64,
 }
 
-pub fn loads_of(c: Cell, slots: &[[u32; 4]; SIDES], p: usize, j: usize) -> Loads
-    requires { (p ≤ 1) × (j < most_places) }
-    ensures { (result.least ≡ lo_at slots.now p j) × (result.one ≡ hi_at slots.now p j) × (result.two ≡ min (lo_at slots.now p j) c.pin) }
+// The load for a surplus of e in the row at `at`, which no longer falls past `last`.
+pub fn load_at(rows: &[u32; ROWS], at: usize, last: usize, e: usize) -> u64
+    requires { at + last < length rows.now }
+    ensures { result ≡ load_at rows.now at last e }
 {
-    let own = slots[j * 2 + p];
-    let least = states::wide(own[0]);
-    Loads {
-        least: least,
-        one: states::wide(own[1]),
-        two: states::least(least, c.pin),
-    }
+    rows[at + e.min(last)] as u64
 }
 
-// One load of a row with one wire more, which takes 0, 1 or 2 of the surplus e and then hands up a, b or c.
-fn mixed_at(rows: &[u32], at: usize, last: usize, e: usize, a: u64, b: u64, c: u64) -> u64
+// One load of a row with one wire more, which takes 0, 1 or 2 of the surplus e.
+fn mixed_at(rows: &[u32; ROWS], at: usize, last: usize, e: usize, l: Loads) -> u64
     requires last_in_bounds { at + last < length rows.now }
-    requires a_bound { (a ≤ 1000000) × (b ≤ 1000000) × (c ≤ 1000000) }
+    requires loads_bound { (l.least ≤ 1000000) × (l.one ≤ 1000000) × (l.two ≤ 1000000) }
     requires by_index { (k : ℕ) → load_at rows.now at last k ≤ 2000000000 }
-    ensures { result ≡ mixed (load_at rows.now at last) a b c e }
+    ensures { result ≡ mixed (load_at rows.now at last) l.least l.one l.two e }
 {
-    let x = a + load_at(rows, at, last, e);
+    let x = l.least + load_at(rows, at, last, e);
     if e == 0 {
         return x;
     }
-    let y = b + load_at(rows, at, last, e - 1);
+    let y = l.one + load_at(rows, at, last, e - 1);
     if e == 1 {
-        return states::least(x, y);
+        return x.min(y);
     }
-    let z = c + load_at(rows, at, last, e - 2);
-    states::least(x, states::least(y, z))
+    let z = l.two + load_at(rows, at, last, e - 2);
+    x.min(y.min(z))
 }
 
-// The row of m + 1 wires, out of that of the m wires after the first of them, which hands up a, b or c.
-fn mix(rows: &mut [u32], m: usize, a: u64, b: u64, c: u64)
-    requires m_lt_most_children { (m < most_children) × (length rows.old ≡ (most_children + 1) * (most_children + 1)) }
-    requires a_bound { (a ≤ 1000000) × (b ≤ 1000000) × (c ≤ 1000000) }
+// The row of m + 1 wires, out of that of the m wires after the first of them, whose loads are l.
+fn mix(rows: &mut [u32; ROWS], m: usize, l: Loads)
+    requires m_lt_most_children { m < most_children }
+    requires loads_bound { (l.least ≤ 1000000) × (l.one ≤ 1000000) × (l.two ≤ 1000000) }
     requires by_index { (k : ℕ) → load_at rows.old (m * m) (m * 2) k ≤ 2000000000 }
-    ensures { Mixed rows.old rows.new (m * m) (m * 2) ((m + 1) * (m + 1)) a b c }
+    ensures { Mixed rows.old rows.new (m * m) (m * 2) ((m + 1) * (m + 1)) l.least l.one l.two }
 {
-    let from = m * m;
     let last = m * 2;
     let to = (m + 1) * (m + 1);
-    let mut e: usize = 0;
-    while e < last + 3 {
-        let x = mixed_at(rows, from, last, e, a, b, c);
-        let k = to + e;
-        rows[k] = x as u32;
-        e += 1;
+    for e in 0..last + 3 {
+        rows[to + e] = mixed_at(rows, m * m, last, e, l) as u32;
     }
 }
 
 // The rows of the wires from k on under a point, and of those after each: that of m wires at the square of m. Answers how many there are.
-pub fn spread(
-    c: Cell,
-    rows: &mut [u32],
-    links: &[u16; SIDES],
-    slots: &[[u32; 4]; SIDES],
-    p: usize,
-    k: usize,
-) -> usize
-    requires p_bound { (p ≤ 1) × (length rows.old ≡ (most_children + 1) * (most_children + 1)) }
-    requires running { Running (model_of c) links.now slots.now p k }
-    ensures rows { (f : Hanging) → Runs (model_of c) links.now slots.now p k f → Rows (model_of c) rows.new p result f }
-    ensures rows_len_unchanged { length rows.new ≡ length rows.old }
+pub fn spread(c: Cell, rows: &mut [u32; ROWS], chains: &Chains, p: usize, k: usize) -> usize
+    requires p_bound { p ≤ 1 }
+    requires running { Running (model_of c) chains.now.links chains.now.slots p k }
+    ensures { (f : Hanging) → Runs (model_of c) chains.now.links chains.now.slots p k f → Rows (model_of c) rows.new p result f }
 {
     if k == 0 {
         rows[0] = 0;
         return 0;
     }
-    let next = place(links[k * 2]);
-    let m = spread(c, rows, links, slots, p, next);
-    let l = loads_of(c, slots, p, k);
-    mix(rows, m, l.least, l.one, l.two);
+    let m = spread(c, rows, chains, p, chains.next(k));
+    mix(rows, m, chains.loads(c, p, k));
     m + 1
 }
 
-// The least surplus at which the load fits, or one more than `last`.
-fn first_fit(rows: &[u32], at: usize, last: usize, limit: u64) -> usize
+// The least surplus up to `last` at which the load fits.
+fn first_fit(rows: &[u32; ROWS], at: usize, last: usize, limit: u64) -> Option<usize>
     requires { at + last < length rows.now }
-    ensures { FirstFit rows.now at last limit result }
+    ensures { MatchOption result (FirstFit rows.now at last limit (last + 1)) (λ e. (e ≤ last) × FirstFit rows.now at last limit e) }
 {
-    let mut e: usize = 0;
-    while e <= last {
-        let x = states::wide(rows[at + e]);
-        if x <= limit {
-            return e;
+    for e in 0..last + 1 {
+        if rows[at + e] as u64 <= limit {
+            return Some(e);
         }
-        e += 1;
     }
-    e
+    None
 }
 
 // What is kept of a node: its least load, that with one more, and one more than the surplus that it takes; 0 for none.
@@ -148,70 +148,50 @@ pub struct Closed {
     pub over: u32,
 }
 
+// A node without a state.
+pub const NONE: Closed = Closed {
+    load: 0,
+    more: 0,
+    over: 0,
+};
+
 // It is read off the row of its m wires.
-fn close_row(c: Cell, rows: &[u32], m: usize) -> Closed
-    requires { CellOk c × (m ≤ most_children) × (length rows.now ≡ (most_children + 1) * (most_children + 1)) }
+fn close_row(c: Cell, rows: &[u32; ROWS], m: usize) -> Closed
+    requires { m ≤ most_children }
     ensures { CloseIs (model_of c) rows.now m result.load result.more result.over }
 {
     let at = m * m;
     let last = m * 2;
-    let e = first_fit(rows, at, last, c.limit);
-    if last < e {
-        return Closed {
-            load: 0,
-            more: 0,
-            over: 0,
-        };
-    }
-    let a = load_at(rows, at, last, e);
-    let b = load_at(rows, at, last, e + 1);
-    let less = states::least(a, b);
+    let Some(e) = first_fit(rows, at, last, c.limit) else {
+        return NONE;
+    };
+    let least = load_at(rows, at, last, e);
+    let more = least.min(load_at(rows, at, last, e + 1));
     Closed {
-        load: a as u32,
-        more: less as u32,
+        load: least as u32,
+        more: more as u32,
         over: (e + 1) as u32,
     }
 }
 
 // A node's state out of the slot k of its wires. Where their least loads fit it takes no surplus, and needs no row.
-pub fn close(
-    c: Cell,
-    rows: &mut [u32],
-    links: &[u16; SIDES],
-    slots: &[[u32; 4]; SIDES],
-    sums: &[u64; SIDES],
-    p: usize,
-    k: usize,
-) -> Closed
-    requires cell_ok { CellOk c × (p ≤ 1) × (k < most_places) × (length rows.old ≡ (most_children + 1) * (most_children + 1)) }
-    requires asked_close { AskedClose (model_of c) links.now slots.now sums.now p k }
-    ensures closed_is { (f : Hanging) → AsksClose (model_of c) links.now slots.now sums.now p k f → ClosedIs (model_of c) p f result.load result.more result.over }
-    ensures rows_len_unchanged { length rows.new ≡ length rows.old }
+pub fn close(c: Cell, rows: &mut [u32; ROWS], chains: &Chains, p: usize, k: usize) -> Closed
+    requires p_bound { (p ≤ 1) × (k < most_places) }
+    requires asked_close { AskedClose (model_of c) chains.now.links chains.now.slots chains.now.sums p k }
+    ensures { (f : Hanging) → AsksClose (model_of c) chains.now.links chains.now.slots chains.now.sums p k f → ClosedIs (model_of c) p f result.load result.more result.over }
 {
     let at = k * 2 + p;
-    if sums[at] == 0 {
-        return Closed {
-            load: 0,
-            more: 0,
-            over: 0,
-        };
+    if chains.sums[at] == 0 {
+        return NONE;
     }
-    let own = slots[at];
-    let a = own[2];
-    if states::wide(a) <= c.limit {
+    let [_, _, least, more] = chains.slots[at];
+    if least as u64 <= c.limit {
         return Closed {
-            load: a,
-            more: lower(a, own[3]),
+            load: least,
+            more: least.min(more),
             over: 1,
         };
     }
-    let m = spread(c, rows, links, slots, p, k);
+    let m = spread(c, rows, chains, p, k);
     close_row(c, rows, m)
-}
-
-// The lower of two loads.
-pub fn lower(a: u32, b: u32) -> u32
-    ensures { result ≡ min a b }
-{
-    if a < b { a } else { b }
 }

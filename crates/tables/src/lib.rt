@@ -1,173 +1,145 @@
 // The way up: each node closed, and each wire hung before the wires after it under its parent, by one pass from the last node to the source.
 #![tactic(auto)]
 
-ghost use Rattle.std.specs.Prelude.{◌≡◌, suc, ◌+◌, ◌*◌, ◌<◌, ◌≤◌, length, set};
-ghost use Rattle.rules.specs.Figures.{most_places, most_children, most_wire};
+ghost use Rattle.std.specs.Prelude.{◌≡◌, suc, ◌+◌, ◌-◌, ◌*◌, ◌<◌, ◌≤◌, length, set};
+ghost use Rattle.rules.specs.Figures.{most_places, most_wire};
 ghost use Rattle.rules.specs.Tree.{Hanging};
-ghost use Rattle.rules.specs.Net.{Net, net_at, parent, wire};
+ghost use Rattle.rules.specs.Net.{Net, net_of, places};
 ghost use Rattle.rules.specs.Sound.{SoundNet};
+ghost use Rattle.frontier.specs.Cell as model;
 ghost use Rattle.frontier.specs.Frontier;
-ghost use Rattle.states.specs.States.{model_of, limits_of, st, CellOk, Small};
+ghost use Rattle.states.specs.States.{model_of, st, Small};
 ghost use Rattle.surplus.specs.Pairs.{near_state};
 ghost use Rattle.surplus.specs.Tables.{head_at, field, count_at, SlotSmall, Hung, WiresJoined, NodesClosed, Filled};
 ghost use Rattle.surplus.specs.Asks.{AskedClose, AsksClose};
 ghost use Rattle.tables.specs.Turns.{SideIs, Hangs};
 
-use rows::{Closed, SIDES};
-use states::{Cell, Side, Sides};
+use rows::{Chains, Closed, NONE, ROWS, SIDES};
+use rules::{LentNet, Node};
+use states::{Cell, Sides, State};
 
-// A sink's state: its pin, where that fits, at its own polarity.
-fn leaf(c: Cell, pin: u32, polarity: u8, q: u8) -> Closed
-    ensures { Frontier.leaf (model_of c) pin polarity q ≡ near_state 1 result.load result.more result.over }
-{
-    if polarity == q {
-        if states::wide(pin) <= c.limit {
-            return Closed {
-                load: pin,
-                more: pin,
-                over: 1,
-            };
-        }
+// What the way up keeps of a net: of each wire and of each node, at both polarities.
+#[derive(Drop)]
+pub struct Tables {
+    pub chains: Chains,
+    pub near: [[u32; 3]; SIDES],
+}
+
+impl Tables {
+    // Nothing is joined or closed yet. The slot 0 is that of no wire, so it counts 0.
+    pub fn blank() -> Tables
+        ensures { (τ : model.Cell) (n : Net) → SoundNet n → Filled τ n result.chains.links result.chains.slots result.chains.sums result.near (places n) }
+    {
+        let mut tables = Tables {
+            chains: Chains {
+                links: [0; SIDES],
+                slots: [[0; 4]; SIDES],
+                sums: [0; SIDES],
+            },
+            near: [[0; 3]; SIDES],
+        };
+        tables.chains.sums[0] = 1;
+        tables.chains.sums[1] = 1;
+        tables
     }
-    Closed {
-        load: 0,
-        more: 0,
-        over: 0,
+
+    // What is kept of node i, at one polarity, over the slot h of its wires.
+    pub fn side(&self, p: usize, h: usize, i: usize) -> Option<State>
+        requires { (p ≤ 1) × (h < most_places) × (i < most_places) × (count_at self.now.chains.sums p h ≤ 100000000001) }
+        ensures { st result ≡ near_state (count_at self.now.chains.sums p h) (field self.now.near p i 0) (field self.now.near p i 1) (field self.now.near p i 2) }
+    {
+        let n = self.chains.sums[h * 2 + p];
+        let [load, more, over] = self.near[i * 2 + p];
+        if n == 0 || over == 0 {
+            return None;
+        }
+        Some(State {
+            count: (n - 1) + (over as u64 - 1),
+            load: load as u64,
+            more: more as u64,
+        })
+    }
+
+    // The least surplus of node i, which has a state.
+    pub fn surplus(&self, p: usize, i: usize) -> usize
+        requires { (p ≤ 1) × (i < most_places) × (1 ≤ field self.now.near p i 2) }
+        ensures { (result ≡ field self.now.near p i 2 - 1) × (result < 4294967295) }
+    {
+        self.near[i * 2 + p][2] as usize - 1
     }
 }
 
-// A node's state at the polarity q, by its kind; k is the slot of its wires.
-fn close_side(
-    c: Cell,
-    kind: u8,
-    pin: u32,
-    polarity: u8,
-    rows: &mut [u32],
-    links: &[u16; SIDES],
-    slots: &[[u32; 4]; SIDES],
-    sums: &[u64; SIDES],
-    q: u8,
-    k: usize,
-) -> Closed
-    requires cell_ok { CellOk c × (q ≤ 1) × (k < most_places) × (length rows.old ≡ (most_children + 1) * (most_children + 1)) }
-    requires asked_close { AskedClose (model_of c) links.now slots.now sums.now q k }
-    ensures side_is { (f : Hanging) → AsksClose (model_of c) links.now slots.now sums.now q k f → SideIs (model_of c) kind pin polarity q f result }
-    ensures rows_len_unchanged { length rows.new ≡ length rows.old }
+// A sink's state: its pin, where that fits, at its own polarity.
+fn leaf(c: Cell, d: Node, q: u8) -> Closed
+    ensures { Frontier.leaf (model_of c) d.pin d.polarity q ≡ near_state 1 result.load result.more result.over }
 {
-    if kind == 0 {
-        return rows::close(c, rows, links, slots, sums, q as usize, k);
+    if d.polarity == q && d.pin as u64 <= c.limit {
+        return Closed {
+            load: d.pin,
+            more: d.pin,
+            over: 1,
+        };
     }
-    leaf(c, pin, polarity, q)
+    NONE
+}
+
+// A node's state at the polarity q, by its kind; k is the slot of its wires.
+fn close_side(c: Cell, d: Node, rows: &mut [u32; ROWS], chains: &Chains, q: u8, k: usize) -> Closed
+    requires q_bound { (q ≤ 1) × (k < most_places) }
+    requires asked_close { AskedClose (model_of c) chains.now.links chains.now.slots chains.now.sums q k }
+    ensures { (f : Hanging) → AsksClose (model_of c) chains.now.links chains.now.slots chains.now.sums q k f → SideIs (model_of c) d.kind d.pin d.polarity q f result }
+{
+    if d.kind == 0 {
+        return rows::close(c, rows, chains, q as usize, k);
+    }
+    leaf(c, d, q)
 }
 
 // Node i closed, at both polarities.
 fn close_node(
     c: Cell,
-    parent: &[u16],
-    wire: &[u32],
-    kind: &[u8],
-    pin: &[u32],
-    polarity: &[u8],
-    rows: &mut [u32],
-    links: &[u16; SIDES],
-    slots: &[[u32; 4]; SIDES],
-    sums: &[u64; SIDES],
+    net: &LentNet,
+    rows: &mut [u32; ROWS],
+    chains: &Chains,
     near: &mut [[u32; 3]; SIDES],
     i: usize,
 )
-    requires cell_ok { CellOk c × SoundNet (net_at (limits_of c) parent wire kind pin polarity) × (i < length parent.now) × (length rows.old ≡ (most_children + 1) * (most_children + 1)) }
-    requires wires_joined { WiresJoined (model_of c) (net_at (limits_of c) parent wire kind pin polarity) links.now slots.now sums.now (suc i) × NodesClosed (model_of c) (net_at (limits_of c) parent wire kind pin polarity) near.old (suc i) }
-    ensures nodes_closed { NodesClosed (model_of c) (net_at (limits_of c) parent.entry wire.entry kind.entry pin.entry polarity.entry) near.new i }
-    ensures rows_len_unchanged { length rows.new ≡ length rows.old }
+    requires sound { SoundNet (net_of net.now) × (i < length net.now.parent.now) }
+    requires wires_joined { WiresJoined (model_of c) (net_of net.now) chains.now.links chains.now.slots chains.now.sums (suc i) × NodesClosed (model_of c) (net_of net.now) near.old (suc i) }
+    ensures { NodesClosed (model_of c) (net_of net.now) near.new i }
 {
-    let k = rows::place(links[i * 2 + 1]);
-    let x = close_side(
-        c,
-        kind[i],
-        pin[i],
-        polarity[i],
-        rows,
-        links,
-        slots,
-        sums,
-        0,
-        k,
-    );
-    let y = close_side(
-        c,
-        kind[i],
-        pin[i],
-        polarity[i],
-        rows,
-        links,
-        slots,
-        sums,
-        1,
-        k,
-    );
-    near[i * 2] = [x.load, x.more, x.over];
-    near[i * 2 + 1] = [y.load, y.more, y.over];
-}
-
-// A kept surplus, of which it is known that sums with it fit.
-pub fn over(x: u32) -> u64
-    ensures { (result ≡ x) × (result < 4294967296) }
-{
-    x as u64
-}
-
-// What is kept of node i, at one polarity, over the slot h of its wires.
-pub fn side_of(sums: &[u64; SIDES], near: &[[u32; 3]; SIDES], p: usize, h: usize, i: usize) -> Side
-    requires { (p ≤ 1) × (h < most_places) × (i < most_places) × (count_at sums.now p h ≤ 100000000001) }
-    ensures { st result ≡ near_state (count_at sums.now p h) (field near.now p i 0) (field near.now p i 1) (field near.now p i 2) }
-{
-    let n = sums[h * 2 + p];
-    let at = i * 2 + p;
-    let e = over(near[at][2]);
-    if n == 0 {
-        return Side::Lost;
-    }
-    if e == 0 {
-        return Side::Lost;
-    }
-    Side::Has(
-        n - 1 + (e - 1),
-        states::wide(near[at][0]),
-        states::wide(near[at][1]),
-    )
+    let k = chains.head(i);
+    let d = net.node(i);
+    let plus = close_side(c, d, rows, chains, 0, k);
+    let minus = close_side(c, d, rows, chains, 1, k);
+    near[i * 2] = [plus.load, plus.more, plus.over];
+    near[i * 2 + 1] = [minus.load, minus.more, minus.over];
 }
 
 // Wire i, of the state s, before the wires of the slot `from`, at one polarity.
-fn hang(
-    slots: &mut [[u32; 4]; SIDES],
-    sums: &mut [u64; SIDES],
-    p: usize,
-    from: usize,
-    i: usize,
-    s: Side,
-)
-    requires p_bound { (p ≤ 1) × (from < most_places) × (i < most_places) × (length slots.old ≡ most_places * 2) × (length sums.old ≡ most_places * 2) }
-    requires small { Small 1000000000000 s × SlotSmall slots.old sums.old p from }
-    ensures { Hung p from i (st s) slots.old sums.old slots.new sums.new }
+fn hang(chains: &mut Chains, p: usize, from: usize, i: usize, s: Option<State>)
+    requires p_bound { (p ≤ 1) × (from < most_places) × (i < most_places) }
+    requires small { Small 1000000000000 s × SlotSmall chains.old.slots chains.old.sums p from }
+    ensures hung { Hung p from i (st s) chains.old.slots chains.old.sums chains.new.slots chains.new.sums }
+    ensures links_kept { chains.new.links ≡ chains.old.links }
 {
     let to = i * 2 + p;
-    let Side::Has(m, a, b) = s else {
-        sums[to] = 0;
+    let Some(s) = s else {
+        chains.sums[to] = 0;
         return;
     };
-    let x = a as u32;
-    let y = b as u32;
+    let load = s.load as u32;
+    let more = s.more as u32;
     let at = from * 2 + p;
-    let n = sums[at];
+    let n = chains.sums[at];
     if n == 0 {
-        slots[to] = [x, y, 0, 0];
-        sums[to] = 0;
+        chains.slots[to] = [load, more, 0, 0];
+        chains.sums[to] = 0;
         return;
     }
-    let g = slots[at][2];
-    let h = slots[at][3];
-    slots[to] = [x, y, x + g, rows::lower(x + h, y + g)];
-    sums[to] = m + n;
+    let [_, _, x, y] = chains.slots[at];
+    chains.slots[to] = [load, more, load + x, (load + y).min(more + x)];
+    chains.sums[to] = s.count + n;
 }
 
 // Wire i is the first under v now, before the one that was.
@@ -175,94 +147,47 @@ fn link(links: &mut [u16; SIDES], v: usize, i: usize)
     requires { (v < most_places) × (i < most_places) }
     ensures { links.new ≡ set (set links.old (i * 2) (head_at links.old v)) (v * 2 + 1) i }
 {
-    let k = links[v * 2 + 1];
-    links[i * 2] = k;
+    links[i * 2] = links[v * 2 + 1];
     links[v * 2 + 1] = i as u16;
 }
 
 // Wire i, of size w, under v: what it is worth over its node, hung before the wires after it.
-fn hang_wire(
-    c: Cell,
-    w: u64,
-    links: &mut [u16; SIDES],
-    slots: &mut [[u32; 4]; SIDES],
-    sums: &mut [u64; SIDES],
-    near: &[[u32; 3]; SIDES],
-    v: usize,
-    i: usize,
-)
-    requires cell_ok { CellOk c × (w ≤ most_wire) }
-    requires hangs { (n : Net) × Hangs (model_of c) n w links.old slots.old sums.old near.now v i }
-    ensures { (n : Net) → Hangs (model_of c) n w links.old slots.old sums.old near.now v i → WiresJoined (model_of c) n links.new slots.new sums.new i }
+fn hang_wire(c: Cell, w: u64, tables: &mut Tables, v: usize, i: usize)
+    requires wire_bound { w ≤ most_wire }
+    requires hangs { (n : Net) × Hangs (model_of c) n w tables.old.chains.links tables.old.chains.slots tables.old.chains.sums tables.old.near v i }
+    ensures joined { (n : Net) → Hangs (model_of c) n w tables.old.chains.links tables.old.chains.slots tables.old.chains.sums tables.old.near v i → WiresJoined (model_of c) n tables.new.chains.links tables.new.chains.slots tables.new.chains.sums i }
+    ensures near_kept { tables.new.near ≡ tables.old.near }
 {
-    let h = rows::place(links[i * 2 + 1]);
+    let h = tables.chains.head(i);
     let s = Sides {
-        plus: side_of(sums, near, 0, h, i),
-        minus: side_of(sums, near, 1, h, i),
+        plus: tables.side(0, h, i),
+        minus: tables.side(1, h, i),
     };
-    let z = states::lift(c, w, s);
-    let k = rows::place(links[v * 2 + 1]);
-    let x = z.plus;
-    let y = z.minus;
-    hang(slots, sums, 0, k, i, x);
-    hang(slots, sums, 1, k, i, y);
-    link(links, v, i);
+    let worth = c.lift(w, s);
+    let k = tables.chains.head(v);
+    hang(&mut tables.chains, 0, k, i, worth.plus);
+    hang(&mut tables.chains, 1, k, i, worth.minus);
+    link(&mut tables.chains.links, v, i);
 }
 
 // One turn of the pass: node i closed, and the wire above it joined.
-fn push(
-    c: Cell,
-    parent: &[u16],
-    wire: &[u32],
-    kind: &[u8],
-    pin: &[u32],
-    polarity: &[u8],
-    rows: &mut [u32],
-    links: &mut [u16; SIDES],
-    slots: &mut [[u32; 4]; SIDES],
-    sums: &mut [u64; SIDES],
-    near: &mut [[u32; 3]; SIDES],
-    i: usize,
-)
-    requires cell_ok { CellOk c × (c.repeater ≡ 1) × SoundNet (net_at (limits_of c) parent wire kind pin polarity) × (length rows.old ≡ (most_children + 1) * (most_children + 1)) }
-    requires le_i { (1 ≤ i) × (i < length parent.now) × Filled (model_of c) (net_at (limits_of c) parent wire kind pin polarity) links.old slots.old sums.old near.old (suc i) }
-    ensures filled { Filled (model_of c) (net_at (limits_of c) parent.entry wire.entry kind.entry pin.entry polarity.entry) links.new slots.new sums.new near.new i }
-    ensures rows_len_unchanged { length rows.new ≡ length rows.old }
+fn push(c: Cell, net: &LentNet, rows: &mut [u32; ROWS], tables: &mut Tables, i: usize)
+    requires sound { (c.repeater ≡ 1) × SoundNet (net_of net.now) }
+    requires le_i { (1 ≤ i) × (i < length net.now.parent.now) × Filled (model_of c) (net_of net.now) tables.old.chains.links tables.old.chains.slots tables.old.chains.sums tables.old.near (suc i) }
+    ensures { Filled (model_of c) (net_of net.now) tables.new.chains.links tables.new.chains.slots tables.new.chains.sums tables.new.near i }
 {
-    close_node(
-        c, parent, wire, kind, pin, polarity, rows, links, slots, sums, near, i,
-    );
-    let v = parent[i] as usize;
-    hang_wire(c, states::wide(wire[i]), links, slots, sums, near, v, i);
+    close_node(c, net, rows, &tables.chains, &mut tables.near, i);
+    hang_wire(c, net.wire[i] as u64, tables, net.parent[i] as usize, i);
 }
 
 // The whole pass, the source's own state last.
-pub fn fill(
-    c: Cell,
-    parent: &[u16],
-    wire: &[u32],
-    kind: &[u8],
-    pin: &[u32],
-    polarity: &[u8],
-    rows: &mut [u32],
-    links: &mut [u16; SIDES],
-    slots: &mut [[u32; 4]; SIDES],
-    sums: &mut [u64; SIDES],
-    near: &mut [[u32; 3]; SIDES],
-)
-    requires cell_ok { CellOk c × (c.repeater ≡ 1) × SoundNet (net_at (limits_of c) parent wire kind pin polarity) × (length rows.old ≡ (most_children + 1) * (most_children + 1)) }
-    requires filled { Filled (model_of c) (net_at (limits_of c) parent wire kind pin polarity) links.old slots.old sums.old near.old (length parent.now) }
-    ensures wires_joined { WiresJoined (model_of c) (net_at (limits_of c) parent.entry wire.entry kind.entry pin.entry polarity.entry) links.new slots.new sums.new 1 × NodesClosed (model_of c) (net_at (limits_of c) parent.entry wire.entry kind.entry pin.entry polarity.entry) near.new 0 }
-    ensures rows_len_unchanged { length rows.new ≡ length rows.old }
+pub fn fill(c: Cell, net: &LentNet, rows: &mut [u32; ROWS], tables: &mut Tables)
+    requires sound { (c.repeater ≡ 1) × SoundNet (net_of net.now) }
+    requires filled { Filled (model_of c) (net_of net.now) tables.old.chains.links tables.old.chains.slots tables.old.chains.sums tables.old.near (length net.now.parent.now) }
+    ensures { WiresJoined (model_of c) (net_of net.now) tables.new.chains.links tables.new.chains.slots tables.new.chains.sums 1 × NodesClosed (model_of c) (net_of net.now) tables.new.near 0 }
 {
-    let mut i = parent.len();
-    while 1 < i {
-        i -= 1;
-        push(
-            c, parent, wire, kind, pin, polarity, rows, links, slots, sums, near, i,
-        );
+    for i in (1..net.parent.len()).rev() {
+        push(c, net, rows, tables, i);
     }
-    close_node(
-        c, parent, wire, kind, pin, polarity, rows, links, slots, sums, near, 0,
-    );
+    close_node(c, net, rows, &tables.chains, &mut tables.near, 0);
 }

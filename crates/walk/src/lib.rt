@@ -4,10 +4,10 @@
 
 ghost use Rattle.std.specs.Prelude.{◌≡◌, ℕ, ◌+◌, ◌-◌, ◌*◌, ◌<◌, ◌≤◌, length, replicate};
 ghost use Rattle.std.proofs.lemmas.List.Edits.{sets};
-ghost use Rattle.rules.specs.Figures.{most_places, most_children, most_wire};
-ghost use Rattle.rules.specs.Net.{Net, net_at};
+ghost use Rattle.rules.specs.Figures.{most_places, most_wire};
+ghost use Rattle.rules.specs.Net.{Net, net_of};
 ghost use Rattle.rules.specs.Sound.{SoundNet};
-ghost use Rattle.states.specs.States.{model_of, limits_of, st, CellOk, Small};
+ghost use Rattle.states.specs.States.{model_of, st, Small};
 ghost use Rattle.surplus.specs.Choice.{Owes};
 ghost use Rattle.surplus.specs.Choice;
 ghost use Rattle.surplus.specs.Tables.{head_at, field, WiresJoined, NodesClosed};
@@ -15,9 +15,12 @@ ghost use Rattle.surplus.specs.Descent.{Cutting, Targeted, Decided, Begun, Writt
 ghost use Rattle.surplus.specs.Asks.{Asked};
 ghost use Rattle.walk.specs.Steps.{StaysIf, Handed};
 
+use columns::Run;
 use cuts::{Target, Turned};
-use rows::{PLACES, SIDES};
-use states::{Cell, Side};
+use rows::{Chains, PLACES, ROWS};
+use rules::LentNet;
+use states::{Cell, State};
+use tables::Tables;
 
 // What is settled of a wire: its node's polarity and surplus, the load under its inverters, how many stand by spacing and how many at its upper end.
 #[derive(Clone, Copy)]
@@ -30,113 +33,70 @@ pub struct Cut {
 }
 
 // The surplus of node i where its load is taken with x more: one more than its least surplus where that lowers the load.
-fn owed(near: &[[u32; 3]; SIDES], q: usize, i: usize, x: u64) -> usize
-    requires { (q ≤ 1) × (i < most_places) × (1 ≤ field near.now q i 2) }
-    ensures { Owes x (field near.now q i 0) (field near.now q i 1) (field near.now q i 2 - 1) result }
+fn owed(tables: &Tables, q: usize, i: usize, x: u64) -> usize
+    requires { (q ≤ 1) × (i < most_places) × (1 ≤ field tables.now.near q i 2) }
+    ensures { Owes x (field tables.now.near q i 0) (field tables.now.near q i 1) (field tables.now.near q i 2 - 1) result }
 {
-    let at = i * 2 + q;
-    let e = tables::over(near[at][2]) as usize;
-    if x == 0 {
-        return e - 1;
-    }
-    if near[at][1] < near[at][0] {
-        return e;
-    }
-    e - 1
+    let [load, more, _] = tables.near[i * 2 + q];
+    tables.surplus(q, i) + usize::from(x != 0 && more < load)
 }
 
-// Whether a wire of size w meets the count m and the load l without inverters, over a node's state x.
-fn stays(x: Side, w: u64, m: u64, l: u64) -> bool
-    requires { (w ≤ most_wire) × Small 500000000000 x }
-    ensures { StaysIf result (st x) w m l }
+// Whether a wire of size w meets the count m and the load l without inverters, over a node's state.
+fn stays(node: Option<State>, w: u64, m: u64, l: u64) -> bool
+    requires { (w ≤ most_wire) × Small 500000000000 node }
+    ensures { StaysIf result (st node) w m l }
 {
-    let Side::Has(n, a, _) = x else {
-        return false;
+    match node {
+        Some(s) => s.count <= m && w + s.load <= l,
+        None => false,
+    }
+}
+
+// The cut of wire i, of size w under a point of polarity p, that has to meet the goal. Its node's wires have the slot h.
+fn cut_over(c: Cell, w: u64, tables: &Tables, p: usize, h: usize, i: usize, goal: Target) -> Cut
+    requires wire_bound { w ≤ most_wire }
+    requires by_index { (n : Net) × (s : ℕ) × Targeted (model_of c) n w tables.now.chains.sums tables.now.near p s h i goal.count goal.load goal.extra }
+    ensures { (n : Net) (s : ℕ) (t : Targeted (model_of c) n w tables.now.chains.sums tables.now.near p s h i goal.count goal.load goal.extra) → Decided (model_of c) n p s i t.parts result.sense result.left result.below result.spaced result.topped }
+{
+    let same = tables.side(p, h, i);
+    let other = tables.side(1 - p, h, i);
+    let (q, stand) = match cuts::choose(c, w, same, other, goal) {
+        Turned::Same(stand) => (p, stand),
+        Turned::Other(stand) => (1 - p, stand),
     };
-    if m < n {
-        return false;
-    }
-    if l < w + a {
-        return false;
-    }
-    true
-}
-
-// The cut of wire i, of size w under a point of polarity p, that has to meet g. Its node's wires have the slot h.
-fn cut_over(
-    c: Cell,
-    w: u64,
-    sums: &[u64; SIDES],
-    near: &[[u32; 3]; SIDES],
-    p: usize,
-    h: usize,
-    i: usize,
-    g: Target,
-) -> Cut
-    requires cell_ok { CellOk c × (w ≤ most_wire) }
-    requires by_index { (n : Net) × (s : ℕ) × Targeted (model_of c) n w sums.now near.now p s h i g.count g.load g.extra }
-    ensures { (n : Net) (s : ℕ) (t : Targeted (model_of c) n w sums.now near.now p s h i g.count g.load g.extra) → Decided (model_of c) n p s i t.parts result.sense result.left result.below result.spaced result.topped }
-{
-    let q = 1 - p;
-    let x = tables::side_of(sums, near, p, h, i);
-    let y = tables::side_of(sums, near, q, h, i);
-    match cuts::choose(c, w, x, y, g.count, g.load) {
-        Turned::Same(more, f, r) => Cut {
-            sense: p,
-            left: owed(near, p, i, more),
-            below: f,
-            spaced: r,
-            topped: g.extra,
-        },
-        Turned::Other(more, f, r) => Cut {
-            sense: q,
-            left: owed(near, q, i, more),
-            below: f,
-            spaced: r,
-            topped: g.extra,
-        },
+    Cut {
+        sense: q,
+        left: owed(tables, q, i, stand.surplus),
+        below: stand.load,
+        spaced: stand.count,
+        topped: goal.extra,
     }
 }
 
 // The cut of wire i, of size w under a point of polarity p, that takes s of the surplus there.
-fn cut_wire(
-    c: Cell,
-    w: u64,
-    links: &[u16; SIDES],
-    slots: &[[u32; 4]; SIDES],
-    sums: &[u64; SIDES],
-    near: &[[u32; 3]; SIDES],
-    p: usize,
-    s: usize,
-    i: usize,
-) -> Cut
-    requires cell_ok { CellOk c × (w ≤ most_wire) }
-    requires cutting { (n : Net) × Cutting (model_of c) n w links.now slots.now sums.now near.now p s i }
-    ensures { (n : Net) (t : Cutting (model_of c) n w links.now slots.now sums.now near.now p s i) → Decided (model_of c) n p s i t.parts result.sense result.left result.below result.spaced result.topped }
+fn cut_wire(c: Cell, w: u64, tables: &Tables, p: usize, s: usize, i: usize) -> Cut
+    requires wire_bound { w ≤ most_wire }
+    requires cutting { (n : Net) × Cutting (model_of c) n w tables.now.chains.links tables.now.chains.slots tables.now.chains.sums tables.now.near p s i }
+    ensures { (n : Net) (t : Cutting (model_of c) n w tables.now.chains.links tables.now.chains.slots tables.now.chains.sums tables.now.near p s i) → Decided (model_of c) n p s i t.parts result.sense result.left result.below result.spaced result.topped }
 {
-    let at = i * 2 + p;
-    let h = rows::place(links[i * 2 + 1]);
-    let k = rows::place(links[i * 2]);
-    let m = sums[at] - sums[k * 2 + p];
-    let a = states::wide(slots[at][0]);
-    let x = tables::side_of(sums, near, p, h, i);
-    if s == 0 {
-        if stays(x, w, m, a) {
-            return Cut {
-                sense: p,
-                left: owed(near, p, i, 0),
-                below: 0,
-                spaced: 0,
-                topped: 0,
-            };
-        }
+    let chains = &tables.chains;
+    let h = chains.head(i);
+    let m = chains.sums[i * 2 + p] - chains.sums[chains.next(i) * 2 + p];
+    let [least, more, _, _] = chains.slots[i * 2 + p];
+    if s == 0 && stays(tables.side(p, h, i), w, m, least as u64) {
+        return Cut {
+            sense: p,
+            left: owed(tables, p, i, 0),
+            below: 0,
+            spaced: 0,
+            topped: 0,
+        };
     }
-    let b = states::wide(slots[at][1]);
-    let g = cuts::aim(c, s, m, a, b);
-    cut_over(c, w, sums, near, p, h, i, g)
+    let goal = cuts::aim(c, s, m, least as u64, more as u64);
+    cut_over(c, w, tables, p, h, i, goal)
 }
 
-// The entries of wire i, of size w: r by spacing over the load h, and k at its upper end. Answers the place after them.
+// The entries of wire i, of size w, as it is cut. Answers the place after them.
 fn write_wire(
     c: Cell,
     wires: &mut [u16],
@@ -144,97 +104,72 @@ fn write_wire(
     at: usize,
     i: usize,
     w: u64,
-    h: u64,
-    r: usize,
-    k: usize,
+    cut: Cut,
 ) -> usize
-    requires cell_ok { CellOk c × (i < most_places) × (w ≤ most_wire) }
-    requires k_in_bounds { (at + (r + k) ≤ length wires.old) × (at + (r + k) ≤ length offsets.old) }
-    ensures { (result ≡ at + (r + k)) × (wires.new ≡ sets wires.old at (replicate (r + k) i)) × (offsets.new ≡ sets offsets.old at (Choice.offsets (model_of c) w h r k)) }
+    requires i_bound { (i < most_places) × (w ≤ most_wire) }
+    requires in_bounds { (at + (cut.spaced + cut.topped) ≤ length wires.old) × (at + (cut.spaced + cut.topped) ≤ length offsets.old) }
+    ensures { (result ≡ at + (cut.spaced + cut.topped)) × (wires.new ≡ sets wires.old at (replicate (cut.spaced + cut.topped) i)) × (offsets.new ≡ sets offsets.old at (Choice.offsets (model_of c) w cut.below cut.spaced cut.topped)) }
 {
-    let v = i as u16;
-    let o = states::least(w, states::less(c.limit, h));
-    columns::write_spaced(wires, offsets, at, v, w, o, c.span, r);
-    let next = at + r;
-    columns::write_spaced(wires, offsets, next, v, w, w, 0, k);
-    next + k
+    let spaced = Run {
+        wire: i as u16,
+        size: w,
+        lowest: w.min(c.limit.saturating_sub(cut.below)),
+        span: c.span,
+        count: cut.spaced as usize,
+    };
+    let topped = Run {
+        lowest: w,
+        span: 0,
+        count: cut.topped as usize,
+        ..spaced
+    };
+    columns::write_spaced(wires, offsets, at, spaced);
+    columns::write_spaced(wires, offsets, at + spaced.count, topped);
+    at + spaced.count + topped.count
 }
 
 // Node i's surplus e dealt out to its wires, at its polarity p.
 pub fn hand_on(
     c: Cell,
-    rows: &mut [u32],
-    links: &[u16; SIDES],
-    slots: &[[u32; 4]; SIDES],
+    rows: &mut [u32; ROWS],
+    chains: &Chains,
     p: usize,
     i: usize,
     e: usize,
     parts: &mut [u8; PLACES],
 )
-    requires p_bound { (p ≤ 1) × (i < most_places) × (length rows.old ≡ (most_children + 1) * (most_children + 1)) }
-    requires asked { (e ≡ 0 → ⊥) → Asked (model_of c) links.now slots.now parts.old p (head_at links.now i) }
-    ensures handed { Handed (model_of c) links.now slots.now parts.old p i e parts.new }
-    ensures rows_len_unchanged { length rows.new ≡ length rows.old }
+    requires p_bound { (p ≤ 1) × (i < most_places) }
+    requires asked { (e ≡ 0 → ⊥) → Asked (model_of c) chains.now.links chains.now.slots parts.old p (head_at chains.now.links i) }
+    ensures { Handed (model_of c) chains.now.links chains.now.slots parts.old p i e parts.new }
 {
-    if e == 0 {
-        return;
+    if e != 0 {
+        deal::deal(c, rows, chains, p, chains.head(i), e, parts);
     }
-    let h = rows::place(links[i * 2 + 1]);
-    deal::deal(c, rows, links, slots, p, h, e, parts);
 }
 
 // All of them, from the source's polarity, which stands at place 0 of `senses`, and from its surplus, which is dealt out already.
 pub fn descend(
     c: Cell,
-    parent: &[u16],
-    wire: &[u32],
-    kind: &[u8],
-    pin: &[u32],
-    polarity: &[u8],
-    rows: &mut [u32],
-    links: &[u16; SIDES],
-    slots: &[[u32; 4]; SIDES],
-    sums: &[u64; SIDES],
-    near: &[[u32; 3]; SIDES],
+    net: &LentNet,
+    rows: &mut [u32; ROWS],
+    tables: &Tables,
     senses: &mut [u8; PLACES],
     parts: &mut [u8; PLACES],
     wires: &mut [u16],
     offsets: &mut [u32],
 )
-    requires cell_ok { CellOk c × (c.repeater ≡ 1) × SoundNet (net_at (limits_of c) parent wire kind pin polarity) × (length rows.old ≡ (most_children + 1) * (most_children + 1)) }
-    requires wires_joined { WiresJoined (model_of c) (net_at (limits_of c) parent wire kind pin polarity) links.now slots.now sums.now 1 × NodesClosed (model_of c) (net_at (limits_of c) parent wire kind pin polarity) near.now 0 }
-    requires by_index { (N : ℕ) × Begun (model_of c) (net_at (limits_of c) parent wire kind pin polarity) senses.old parts.old N wires.old offsets.old }
-    ensures { (N : ℕ) → Begun (model_of c) (net_at (limits_of c) parent.entry wire.entry kind.entry pin.entry polarity.entry) senses.old parts.old N wires.old offsets.old → Written (model_of c) (net_at (limits_of c) parent.entry wire.entry kind.entry pin.entry polarity.entry) senses.old N wires.old offsets.old wires.new offsets.new }
+    requires sound { (c.repeater ≡ 1) × SoundNet (net_of net.now) }
+    requires wires_joined { WiresJoined (model_of c) (net_of net.now) tables.now.chains.links tables.now.chains.slots tables.now.chains.sums 1 × NodesClosed (model_of c) (net_of net.now) tables.now.near 0 }
+    requires by_index { (N : ℕ) × Begun (model_of c) (net_of net.now) senses.old parts.old N wires.old offsets.old }
+    ensures { (N : ℕ) → Begun (model_of c) (net_of net.now) senses.old parts.old N wires.old offsets.old → Written (model_of c) (net_of net.now) senses.old N wires.old offsets.old wires.new offsets.new }
 {
-    let mut i: usize = 1;
-    let mut at: usize = 0;
-    while i < parent.len() {
-        let v = parent[i] as usize;
-        let w = states::wide(wire[i]);
-        let z = cut_wire(
-            c,
-            w,
-            links,
-            slots,
-            sums,
-            near,
-            senses[v] as usize,
-            parts[i] as usize,
-            i,
-        );
-        at = write_wire(
-            c,
-            wires,
-            offsets,
-            at,
-            i,
-            w,
-            z.below,
-            z.spaced as usize,
-            z.topped as usize,
-        );
-        senses[i] = z.sense as u8;
-        hand_on(c, rows, links, slots, z.sense, i, z.left, parts);
-        i += 1;
+    let mut at = 0;
+    for i in 1..net.parent.len() {
+        let w = net.wire[i] as u64;
+        let p = senses[net.parent[i] as usize] as usize;
+        let cut = cut_wire(c, w, tables, p, parts[i] as usize, i);
+        at = write_wire(c, wires, offsets, at, i, w, cut);
+        senses[i] = cut.sense as u8;
+        hand_on(c, rows, &tables.chains, cut.sense, i, cut.left, parts);
     }
 }

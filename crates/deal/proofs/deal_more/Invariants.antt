@@ -1,5 +1,5 @@
 -- A surplus of e: each wire takes its part by the row of the wires after it.
-use Prim.Native.Nat.{◌<◌, ◌≤◌}
+use Prim.Native.Nat.{◌<◌}
 use Rattle.rules.specs.Figures.{most_places}
 use Rattle.rules.specs.Tree.{Hanging}
 use Rattle.states.specs.States.{model_of}
@@ -8,7 +8,4 @@ use Rattle.surplus.proofs.More.{WayMore}
 use Rattle.deal.proofs.deal_more.Given as goal
 
 abbrev pub invariant-loop-m : goal.invariant-loop-m
-invariant-loop-m l = (l.m ≤ l.n) × (l.j < most_places) × ((f : Hanging) → AsksMore (model_of l.c) l.rows l.links l.slots l.initial.parts l.p l.k l.n f → WayMore (model_of l.c) l.rows l.links l.slots l.initial.parts l.parts l.p l.e f l.j l.left l.m)
-
-abbrev pub decreases-loop-m : goal.decreases-loop-m
-decreases-loop-m l = l.m
+invariant-loop-m l = (l.j < most_places) × ((f : Hanging) → AsksMore (model_of l.c) l.rows l.chains.links l.chains.slots l.initial.parts l.p l.k l.n f → WayMore (model_of l.c) l.rows l.chains.links l.chains.slots l.initial.parts l.parts l.p l.e f l.j l.left l.m)

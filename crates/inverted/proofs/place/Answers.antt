@@ -1,37 +1,40 @@
 -- From the source the walk settles the tree with at most the least count, so what is written is a least placement.
 use native.Mathlib.Omega.{arith}
-use Prim.Native.Nat.{ℕ, ◌-◌}
-use mathlib.Core.Path.{refl, ap, ◌∙◌}
+use mathlib.Core.Path.{sym, ap}
+use Rattle.std.specs.Prelude.{Ok}
+use Rattle.states.proofs.Leaves.{ok_of}
 use Rattle.solution.specs.Answer.{placed}
-use Rattle.inverted.proofs.Rooting.{at_source, some, asks_source, begun, written_least, least_placed}
+use Rattle.inverted.proofs.Rooting.{some, asks_source, begun, written_least, least_placed}
 use Rattle.inverted.proofs.place.Goals as goal
 
-pub overflow_sub-e : goal.overflow_sub-e
-overflow_sub-e c =
-    let (ok, one, sound, l) = c.requires.cell_ok in
-    let (w, cl) = c.requires.wires_joined in
-    omega (arith, c.over.ensures.0, at_source c.args.near.now c.args.p, some ok sound w cl c.requires.rooted.0)
-
-pub hand_on-requires : goal.hand_on-requires
-hand_on-requires c =
-    let (ok, one, sound, l) = c.requires.cell_ok in
+pub surplus-e-requires : goal.surplus-e-requires
+surplus-e-requires c =
+    let (same, one, sound) = c.requires.sound in
     let (w, cl) = c.requires.wires_joined in
     let (r, m) = c.requires.rooted in
-    record { p_bound = (r.few, omega arith, l); asked = λ ne. record { f = _; asks = asks_source ok sound w cl r } }
+    (r.few, omega arith, some (ok_of c.args.c) sound w cl r)
 
-pub descend-requires : goal.descend-requires
-descend-requires c =
-    let (ok, one, sound, l) = c.requires.cell_ok in
+pub hand_on-requires-clause-asked : goal.hand_on-requires-clause-asked
+hand_on-requires-clause-asked c =
+    let (same, one, sound) = c.requires.sound in
     let (w, cl) = c.requires.wires_joined in
     let (r, m) = c.requires.rooted in
-    record { cell_ok = (ok, one, sound, c.hand_on.ensures.rows_len_unchanged ∙ l); wires_joined = (w, cl); by_index = (_, begun ok sound w cl r _ _ _ _ (ap (λ (x : ℕ). x - 1) (c.over.ensures.0 ∙ at_source c.args.near.now c.args.p)) c.hand_on.ensures.handed m) }
+    λ ne. record { f = _; asks = asks_source (ok_of c.args.c) sound w cl r }
+
+pub descend-requires-clause-by_index : goal.descend-requires-clause-by_index
+descend-requires-clause-by_index c =
+    let (same, one, sound) = c.requires.sound in
+    let (w, cl) = c.requires.wires_joined in
+    let (r, m) = c.requires.rooted in
+    (_, begun (ok_of c.args.c) sound w cl r _ _ _ _ c.surplus-e.ensures.0 c.hand_on.ensures m)
 
 pub returns : goal.returns
 returns c =
-    let (ok, one, sound, l) = c.requires.cell_ok in
+    let ok = ok_of c.args.c in
+    let (same, one, sound) = c.requires.sound in
     let (w, cl) = c.requires.wires_joined in
     let (r, m) = c.requires.rooted in
-    let x = c.descend.ensures _ (begun ok sound w cl r _ _ _ _ (ap (λ (x : ℕ). x - 1) (c.over.ensures.0 ∙ at_source c.args.near.now c.args.p)) c.hand_on.ensures.handed m) in
-    let y = written_least ok sound refl r x in
-    let z = least_placed ok sound refl r y m in
-    placed _ y.0 z.0 z.1 z.2 x.holds
+    let x = c.descend.ensures _ (begun ok sound w cl r _ _ _ _ c.surplus-e.ensures.0 c.hand_on.ensures m) in
+    let y = written_least ok sound same r x in
+    let z = least_placed ok sound same r y m in
+    placed _ y.0 z.0 z.1 (ap Ok (sym y.1)) x.holds

@@ -1,48 +1,42 @@
 -- What the wire is worth over its node's two states, hung at plus and then at minus: the wires from it on are joined.
 use native.Mathlib.Omega.{arith}
-use mathlib.Core.Path.{◌∙◌}
-use Rattle.tables.proofs.Turning.{lower, in_places, node_low, node_count, is_node, is_small, is_falling, after_low, after_small, still_small, plus_small, minus_small, hung_both}
+use Rattle.states.proofs.Leaves.{ok_of}
+use Rattle.tables.proofs.Turning.{node_low, node_count, in_places, is_node, is_small, is_falling, after_small, still_small, plus_small, minus_small, hung_both}
 use Rattle.tables.proofs.hang_wire.Goals as goal
 
-pub side_of-requires : goal.side_of-requires
-side_of-requires c = (omega arith, node_low c.requires.cell_ok.0 c.requires.hangs.1 c.place-h.ensures, in_places c.requires.cell_ok.0 c.requires.hangs.1, node_count c.requires.cell_ok.0 c.requires.hangs.1 c.place-h.ensures 0 (omega arith))
+pub side-requires : goal.side-requires
+side-requires c = let (n, g) = c.requires.hangs in let ok = ok_of c.args.c in (omega arith, node_low ok g c.head-h.ensures, in_places ok g, node_count ok g c.head-h.ensures 0 (omega arith))
 
-pub side_of-requires-2 : goal.side_of-requires-2
-side_of-requires-2 c = (omega arith, node_low c.requires.cell_ok.0 c.requires.hangs.1 c.place-h.ensures, in_places c.requires.cell_ok.0 c.requires.hangs.1, node_count c.requires.cell_ok.0 c.requires.hangs.1 c.place-h.ensures 1 (omega arith))
+pub side-requires-2 : goal.side-requires-2
+side-requires-2 c = let (n, g) = c.requires.hangs in let ok = ok_of c.args.c in (omega arith, node_low ok g c.head-h.ensures, in_places ok g, node_count ok g c.head-h.ensures 1 (omega arith))
 
-pub lift-z-requires : goal.lift-z-requires
-lift-z-requires c = record { cell_ok = c.requires.cell_ok; small = (is_small c.requires.cell_ok.0 c.requires.hangs.1 c.place-h.ensures (omega arith) c.side_of.ensures, is_small c.requires.cell_ok.0 c.requires.hangs.1 c.place-h.ensures (omega arith) c.side_of-2.ensures, is_falling c.requires.cell_ok.0 c.requires.hangs.1 c.place-h.ensures (omega arith) c.side_of.ensures, is_falling c.requires.cell_ok.0 c.requires.hangs.1 c.place-h.ensures (omega arith) c.side_of-2.ensures) }
+pub lift-worth-requires : goal.lift-worth-requires
+lift-worth-requires c =
+    let (n, g) = c.requires.hangs in
+    let ok = ok_of c.args.c in
+    let h = c.head-h.ensures in
+    (c.requires.wire_bound, is_small ok g h (omega arith) c.side.ensures, is_small ok g h (omega arith) c.side-2.ensures, is_falling ok g h (omega arith) c.side.ensures, is_falling ok g h (omega arith) c.side-2.ensures)
 
-pub overflow_mul-v : goal.overflow_mul-v
-overflow_mul-v c = record { fits = omega (arith, lower c.requires.cell_ok.0 c.requires.hangs.1, in_places c.requires.cell_ok.0 c.requires.hangs.1) }
+pub hang-requires-clause-small : goal.hang-requires-clause-small
+hang-requires-clause-small c =
+    let (n, g) = c.requires.hangs in
+    let ok = ok_of c.args.c in
+    let es = is_node ok g c.head-h.ensures (omega arith) c.side.ensures in
+    let et = is_node ok g c.head-h.ensures (omega arith) c.side-2.ensures in
+    (plus_small ok g es et c.lift-worth.ensures.plus c.lift-worth.ensures.minus, after_small ok g c.head-k.ensures 0 (omega arith))
 
-pub overflow_add-v : goal.overflow_add-v
-overflow_add-v c = record { fits = omega (arith, lower c.requires.cell_ok.0 c.requires.hangs.1, in_places c.requires.cell_ok.0 c.requires.hangs.1) }
+pub hang-requires-2-clause-small : goal.hang-requires-2-clause-small
+hang-requires-2-clause-small c =
+    let (n, g) = c.requires.hangs in
+    let ok = ok_of c.args.c in
+    let es = is_node ok g c.head-h.ensures (omega arith) c.side.ensures in
+    let et = is_node ok g c.head-h.ensures (omega arith) c.side-2.ensures in
+    (minus_small ok g es et c.lift-worth.ensures.plus c.lift-worth.ensures.minus, still_small ok g c.head-k.ensures c.hang.ensures.hung)
 
-pub offset_bounds-links-v : goal.offset_bounds-links-v
-offset_bounds-links-v c = record { fits = omega (arith, lower c.requires.cell_ok.0 c.requires.hangs.1, in_places c.requires.cell_ok.0 c.requires.hangs.1) }
-
-pub bounds-links-v : goal.bounds-links-v
-bounds-links-v c = omega (arith, lower c.requires.cell_ok.0 c.requires.hangs.1, in_places c.requires.cell_ok.0 c.requires.hangs.1)
-
-pub hang-requires : goal.hang-requires
-hang-requires c =
-    let es = is_node c.requires.cell_ok.0 c.requires.hangs.1 c.place-h.ensures (omega arith) c.side_of.ensures in
-    let et = is_node c.requires.cell_ok.0 c.requires.hangs.1 c.place-h.ensures (omega arith) c.side_of-2.ensures in
-    record { p_bound = (omega arith, after_low c.requires.cell_ok.0 c.requires.hangs.1 c.place-k.ensures, in_places c.requires.cell_ok.0 c.requires.hangs.1, c.requires.hangs.1.joined.slots_long, c.requires.hangs.1.joined.sums_long); small = (plus_small c.requires.cell_ok.0 c.requires.hangs.1 es et c.lift-z.ensures.plus c.lift-z.ensures.minus, after_small c.requires.cell_ok.0 c.requires.hangs.1 c.place-k.ensures 0 (omega arith)) }
-
-pub hang-requires-2 : goal.hang-requires-2
-hang-requires-2 c =
-    let es = is_node c.requires.cell_ok.0 c.requires.hangs.1 c.place-h.ensures (omega arith) c.side_of.ensures in
-    let et = is_node c.requires.cell_ok.0 c.requires.hangs.1 c.place-h.ensures (omega arith) c.side_of-2.ensures in
-    record { p_bound = (omega arith, after_low c.requires.cell_ok.0 c.requires.hangs.1 c.place-k.ensures, in_places c.requires.cell_ok.0 c.requires.hangs.1, c.hang.ensures.slots_long ∙ c.requires.hangs.1.joined.slots_long, c.hang.ensures.sums_long ∙ c.requires.hangs.1.joined.sums_long); small = (minus_small c.requires.cell_ok.0 c.requires.hangs.1 es et c.lift-z.ensures.plus c.lift-z.ensures.minus, still_small c.requires.cell_ok.0 c.requires.hangs.1 c.place-k.ensures c.hang.ensures) }
-
-pub link-requires : goal.link-requires
-link-requires c = (omega (arith, lower c.requires.cell_ok.0 c.requires.hangs.1, in_places c.requires.cell_ok.0 c.requires.hangs.1), in_places c.requires.cell_ok.0 c.requires.hangs.1)
-
-pub returns : goal.returns
-returns c =
+pub returns-clause-joined : goal.returns-clause-joined
+returns-clause-joined c =
     λ n g.
-    let es = is_node c.requires.cell_ok.0 g c.place-h.ensures (omega arith) c.side_of.ensures in
-    let et = is_node c.requires.cell_ok.0 g c.place-h.ensures (omega arith) c.side_of-2.ensures in
-    hung_both c.requires.cell_ok.0 g es et c.lift-z.ensures.plus c.lift-z.ensures.minus _ c.place-k.ensures c.hang.ensures c.hang-2.ensures c.link.ensures
+    let ok = ok_of c.args.c in
+    let es = is_node ok g c.head-h.ensures (omega arith) c.side.ensures in
+    let et = is_node ok g c.head-h.ensures (omega arith) c.side-2.ensures in
+    hung_both ok g es et c.lift-worth.ensures.plus c.lift-worth.ensures.minus _ c.head-k.ensures c.hang.ensures.hung c.hang-2.ensures.hung (rw (c.hang-2.ensures.links_kept, c.hang.ensures.links_kept) at c.link.ensures)

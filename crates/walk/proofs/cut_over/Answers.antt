@@ -1,35 +1,22 @@
 -- The choice over the node's two states, and the surplus that it asks of the node.
 use native.Mathlib.Omega.{arith}
-use mathlib.Core.Path.{subst}
-use Rattle.cuts.specs.Tries.{TurnOk}
-use Rattle.walk.proofs.Settling.{in_places, is_node, is_small, can_meet, some, decided_same, decided_other}
+use Rattle.states.proofs.Leaves.{ok_of}
+use Rattle.walk.proofs.Settling.{is_node, is_small, can_meet, decided_same, decided_other}
+use Rattle.walk.proofs.cut_over.Goals.{in-Same, in-Other}
 use Rattle.walk.proofs.cut_over.Goals as goal
 
-pub side_of-x-requires : goal.side_of-x-requires
-side_of-x-requires c = (c.requires.by_index.2.low, c.requires.by_index.2.slot, in_places c.requires.cell_ok.0 c.requires.by_index.2, c.requires.by_index.2.counts _ c.requires.by_index.2.low)
+pub choose-requires-clause-w_le_most_wire : goal.choose-requires-clause-w_le_most_wire
+choose-requires-clause-w_le_most_wire c =
+    let (n, s, t) = c.requires.by_index in
+    (c.requires.wire_bound, is_small (ok_of c.args.c) t t.low c.side-same.ensures, is_small (ok_of c.args.c) t (omega arith) c.side-other.ensures)
 
-pub side_of-y-requires : goal.side_of-y-requires
-side_of-y-requires c = (omega arith, c.requires.by_index.2.slot, in_places c.requires.cell_ok.0 c.requires.by_index.2, c.requires.by_index.2.counts _ (omega arith))
+pub choose-requires-clause-meets : goal.choose-requires-clause-meets
+choose-requires-clause-meets c =
+    let (n, s, t) = c.requires.by_index in
+    can_meet (ok_of c.args.c) t (is_node (ok_of c.args.c) t t.low c.side-same.ensures) (is_node (ok_of c.args.c) t (omega arith) c.side-other.ensures)
 
-pub choose-requires : goal.choose-requires
-choose-requires c = record { cell_ok = c.requires.cell_ok.0; w_le_most_wire = (c.requires.cell_ok.1, is_small c.requires.cell_ok.0 c.requires.by_index.2 c.requires.by_index.2.low c.side_of-x.ensures, is_small c.requires.cell_ok.0 c.requires.by_index.2 (omega arith) c.side_of-y.ensures); meets = can_meet c.requires.cell_ok.0 c.requires.by_index.2 (is_node c.requires.cell_ok.0 c.requires.by_index.2 c.requires.by_index.2.low c.side_of-x.ensures) (is_node c.requires.cell_ok.0 c.requires.by_index.2 (omega arith) c.side_of-y.ensures) }
-
-pub owed-requires : goal.owed-requires
-owed-requires c =
-    let o = subst (TurnOk _ _ _ _ _ _) c.in-Same.is c.choose.ensures in
-    (c.requires.by_index.2.low, in_places c.requires.cell_ok.0 c.requires.by_index.2, some c.requires.cell_ok.0 c.requires.by_index.2 c.requires.by_index.2.low _ _ _ _ (is_node c.requires.cell_ok.0 c.requires.by_index.2 c.requires.by_index.2.low c.side_of-x.ensures) o.under)
-
-pub owed-requires-in-Other : goal.owed-requires-in-Other
-owed-requires-in-Other c =
-    let o = subst (TurnOk _ _ _ _ _ _) c.in-Other.is c.choose.ensures in
-    (omega arith, in_places c.requires.cell_ok.0 c.requires.by_index.2, some c.requires.cell_ok.0 c.requires.by_index.2 (omega arith) _ _ _ _ (is_node c.requires.cell_ok.0 c.requires.by_index.2 (omega arith) c.side_of-y.ensures) o.under)
-
-pub returns-in-Same : goal.returns-in-Same
-returns-in-Same c =
-    λ n s t.
-    decided_same c.requires.cell_ok.0 t _ _ _ _ (is_node c.requires.cell_ok.0 t t.low c.side_of-x.ensures) (subst (TurnOk _ _ _ _ _ _) c.in-Same.is c.choose.ensures) c.owed.ensures
-
-pub returns-in-Other : goal.returns-in-Other
-returns-in-Other c =
-    λ n s t.
-    decided_other c.requires.cell_ok.0 t _ _ _ _ (is_node c.requires.cell_ok.0 t (omega (arith, t.low)) c.side_of-y.ensures) (subst (TurnOk _ _ _ _ _ _) c.in-Other.is c.choose.ensures) c.owed-in-Other.ensures
+pub returns : goal.returns
+returns c = λ n s t. elim c.match-choose.branch [
+  | in-Same w ↦ rw w.q-is (decided_same (ok_of c.args.c) t _ _ _ _ (is_node (ok_of c.args.c) t t.low c.side-same.ensures) w.in-Same.ensures (rw w.q-is at c.owed.ensures))
+  | in-Other w ↦ rw w.q-is (decided_other (ok_of c.args.c) t _ _ _ _ (is_node (ok_of c.args.c) t (omega arith) c.side-other.ensures) w.in-Other.ensures (rw w.q-is at c.owed.ensures))
+]
