@@ -5,209 +5,111 @@
 // so its line is the last; after a childless point (5) the next pair is read. A net with nothing after it has an empty placement file.
 #![tactic(auto)]
 
-ghost use Rattle.std.specs.Prelude.{◌≡◌, ◌+◌, ◌<◌, ◌≤◌, IfOk, length};
+ghost use Rattle.std.specs.Prelude.{◌≡◌, ◌<◌, ◌≤◌, IfOk, length};
 
-use finish::Finished;
-use input::Input;
-use net_file::NetRead;
-use placement_file::PlacementRead;
-use rules::{Limits, Refusal};
+use net_file::Columns;
+use placement_file::Entries;
+use rules::{LentPlacement, Refusal};
 use std::io;
 
 // Room for two of the longest pairs and many short ones. An input that fills it may have been cut, so it gets no answer.
 const INPUT: usize = 131072;
 
-// The places of a net's columns, and the entries of a placement's.
-const PLACES: usize = 1025;
-
-const ENTRIES: usize = 4096;
-
-// The line of a refusal.
-fn print_refusal(rt: &impl Print, why: Refusal) -> io::Result<()> {
-    let line = answer::refused_line(why);
-    let text = line.text;
-    let bytes = line.bytes;
-    rt.write_all(&text[..bytes])
+// Which of a pair's two files is refused, or that both are well and the finish is not.
+enum Refused {
+    Net(Refusal),
+    Placement(Refusal),
+    Finish(Refusal),
 }
 
-fn print_added(rt: &impl Print, wires: &[u16], offsets: &[u32]) -> io::Result<()>
-    requires { length offsets.now ≡ length wires.now }
-{
-    let count = wires.len();
+fn print_refused(rt: &impl Print, refused: Refused) -> io::Result<()> {
+    let (file, why) = match refused {
+        Refused::Net(why) => ("net ", why),
+        Refused::Placement(why) => ("placement ", why),
+        Refused::Finish(why) => ("", why),
+    };
+    let line = answer::refused_line(why);
+    rt.print(file)?;
+    rt.write_all(line.as_bytes())
+}
+
+fn print_added(rt: &impl Print, added: &LentPlacement) -> io::Result<()> {
+    let count = added.wires.len();
     println!(rt; "added {count}")?;
-    for (wire, offset) in wires.iter().zip(offsets) {
+    for (wire, offset) in added.wires.iter().zip(added.offsets) {
         println!(rt; "wire {wire} offset {offset}")?;
     }
     Ok(())
 }
 
-// A net and its given entries.
-fn finish_given(
-    rt: &impl Print,
-    limits: Limits,
-    parent: &[u16],
-    wire: &[u32],
-    kind: &[u8],
-    pin: &[u32],
-    polarity: &[u8],
-    given: &[u16],
-    offsets: &[u32],
-) -> io::Result<()> {
-    let mut wires = [0u16; ENTRIES];
-    let mut added = [0u32; ENTRIES];
-    let finished = finish::finish(
-        limits, parent, wire, kind, pin, polarity, given, offsets, &mut wires, &mut added,
-    );
-    match finished {
-        Finished::Added(count) => print_added(rt, &wires[..count], &added[..count]),
-        Finished::Refused(why) => print_refusal(rt, why),
+// A net file and the placement file of its given entries. It answers how many entries it added.
+fn finish_pair(net: &[u8], placement: &[u8], added: &mut Entries) -> Result<usize, Refused>
+    ensures { IfOk result (λ count. count ≤ 4096) }
+{
+    let mut columns = Columns::blank();
+    let read = net_reader::read(net, &mut columns).map_err(Refused::Net)?;
+    let mut given = Entries::blank();
+    let count = placement_reader::read(placement, &mut given).map_err(Refused::Placement)?;
+    finish::finish(
+        &columns.lent(read.limits, read.places),
+        &given.lent(count),
+        &mut added.wires,
+        &mut added.offsets,
+    )
+    .map_err(Refused::Finish)
+}
+
+fn print_pair(rt: &impl Print, net: &[u8], placement: &[u8]) -> io::Result<()> {
+    let mut added = Entries::blank();
+    match finish_pair(net, placement, &mut added) {
+        Ok(count) => print_added(rt, &added.lent(count)),
+        Err(refused) => print_refused(rt, refused),
     }
 }
 
-// A net and the placement file of its given entries.
-fn finish_net(
-    rt: &impl Print,
-    limits: Limits,
-    parent: &[u16],
-    wire: &[u32],
-    kind: &[u8],
-    pin: &[u32],
-    polarity: &[u8],
-    placement: &[u8],
-) -> io::Result<()> {
-    let mut given = [0u16; ENTRIES];
-    let mut offsets = [0u32; ENTRIES];
-    let found = placement_reader::read_placement(placement, &mut given, &mut offsets);
-    match found {
-        PlacementRead::Read(count) => finish_given(
-            rt,
-            limits,
-            parent,
-            wire,
-            kind,
-            pin,
-            polarity,
-            &given[..count],
-            &offsets[..count],
-        ),
-        PlacementRead::Refused(why) => {
-            rt.print("placement ")?;
-            print_refusal(rt, why)
-        }
-    }
-}
-
-// A net file and the placement file of its given entries.
-fn finish_pair(rt: &impl Print, net: &[u8], placement: &[u8]) -> io::Result<()> {
-    let mut parent = [0u16; PLACES];
-    let mut wire = [0u32; PLACES];
-    let mut kind = [0u8; PLACES];
-    let mut pin = [0u32; PLACES];
-    let mut polarity = [0u8; PLACES];
-    let found = net_reader::read_net(
-        net,
-        &mut parent,
-        &mut wire,
-        &mut kind,
-        &mut pin,
-        &mut polarity,
-    );
-    match found {
-        NetRead::Read { limits, places } => finish_net(
-            rt,
-            limits,
-            &parent[..places],
-            &wire[..places],
-            &kind[..places],
-            &pin[..places],
-            &polarity[..places],
-            placement,
-        ),
-        NetRead::Refused(why) => {
-            rt.print("net ")?;
-            print_refusal(rt, why)
-        }
-    }
-}
-
-// Of so many bytes those of the first file, by its reader's refusal of them all: up to the first byte after it, and else all.
+// Of so many bytes those of the first file, by what its reader answers to them all: up to the first byte after it, and else all.
 // That byte is not the first and lies among them, as the readers' contracts have it; a test is shorter than its proof.
-fn first_file(bytes: usize, why: Refusal) -> usize
+fn first_file<T>(read: &Result<T, Refusal>, bytes: usize) -> usize
     ensures { (result ≤ bytes) × (0 < bytes → 0 < result) }
 {
-    let Refusal::BytesAfterEnd(next) = why else {
-        return bytes;
-    };
-    if next == 0 {
-        return bytes;
+    match read {
+        Err(Refusal::BytesAfterEnd(next)) if 0 < *next && *next < bytes => *next,
+        _ => bytes,
     }
-    if next < bytes { next } else { bytes }
 }
 
 // The bytes of the net file that s begins with.
 fn net_bytes(s: &[u8]) -> usize
     ensures { (result ≤ length s.now) × (0 < length s.now → 0 < result) }
 {
-    let mut parent = [0u16; PLACES];
-    let mut wire = [0u32; PLACES];
-    let mut kind = [0u8; PLACES];
-    let mut pin = [0u32; PLACES];
-    let mut polarity = [0u8; PLACES];
-    let found = net_reader::read_net(
-        s,
-        &mut parent,
-        &mut wire,
-        &mut kind,
-        &mut pin,
-        &mut polarity,
-    );
-    let NetRead::Refused(why) = found else {
-        return s.len();
-    };
-    first_file(s.len(), why)
+    first_file(&net_reader::read(s, &mut Columns::blank()), s.len())
 }
 
 // The bytes of the placement file that s begins with.
 fn placement_bytes(s: &[u8]) -> usize
     ensures { result ≤ length s.now }
 {
-    let mut wires = [0u16; ENTRIES];
-    let mut offsets = [0u32; ENTRIES];
-    let found = placement_reader::read_placement(s, &mut wires, &mut offsets);
-    let PlacementRead::Refused(why) = found else {
-        return s.len();
-    };
-    first_file(s.len(), why)
+    first_file(&placement_reader::read(s, &mut Entries::blank()), s.len())
 }
 
-// The pair that s begins with, of which the net file has n bytes. It answers the bytes of the placement file.
-fn finish_first(rt: &impl Print, s: &[u8], n: usize) -> io::Result<usize>
-    requires { n ≤ length s.now }
-    ensures { IfOk result (λ m. n + m ≤ length s.now) }
-{
-    let m = placement_bytes(&s[n..]);
-    let end = n + m;
-    finish_pair(rt, &s[..n], &s[n..end])?;
-    Ok(m)
-}
-
-fn finish_all(rt: &impl Print, s: &[u8]) -> io::Result<()> {
-    let mut at = 0;
-    while at < s.len() {
-        let n = net_bytes(&s[at..]);
-        let m = finish_first(rt, &s[at..], n)?;
-        at += n + m;
+fn print_all(rt: &impl Print, s: &[u8]) -> io::Result<()> {
+    let mut rest = s;
+    while !rest.is_empty() {
+        let (net, after) = rest.split_at(net_bytes(rest));
+        let (placement, more) = after.split_at(placement_bytes(after));
+        print_pair(rt, net, placement)?;
+        rest = more;
     }
     Ok(())
 }
 
 fn main(rt: HostRuntime) -> io::Result<()> {
     let mut input = [0u8; INPUT];
-    let Input::Bytes(count) = input::read(&mut rt.stdin(), &mut input) else {
+    let Ok(count) = input::read(&mut rt.stdin(), &mut input) else {
         return rt.eprintln("the input could not be read to its end");
     };
     if count == INPUT {
         return rt.eprintln("the input is longer than 131071 bytes");
     }
-    finish_all(&rt, &input[..count])
+    print_all(&rt, &input[..count])
 }
