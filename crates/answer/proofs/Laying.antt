@@ -38,5 +38,9 @@ of_line bs a =
     ∙ ap (take (length bs)) (sets-eq bs (replicate 64 0) 0 (omega arith))
     ∙ take-append_seam bs (drop (0 + length bs) (replicate 64 0))
 
+-- a line that was laid
+pub line_laid : {bs l l₁ : List ℕ} {at n : ℕ} {r : Line} → IsLine bs r → Laid l at (take r.bytes r.text) l₁ n → Laid l at bs l₁ n
+line_laid is a = laid_as (of_line _ is) a
+
 pub line_size : (bs : List ℕ) {r : Line} → IsLine bs r → (r.bytes ≡ length bs) × (length r.text ≡ 64)
 line_size bs a = (ap (λ (r : Line). r.bytes) a.is, ap (λ (r : Line). length r.text) a.is ∙ length-sets (replicate 64 0) 0 bs)

@@ -49,6 +49,7 @@ impl Line {
 }
 
 // Lays some bytes from the place at on, and answers the place after them.
+#[tactic(auto, using(crate::proofs::Laying::copied))]
 pub fn put(out: &mut [u8], at: usize, bytes: &[u8]) -> usize
     requires { at + length bytes.now ≤ length out.old }
     ensures { Laid out.old at bytes.now out.new result }
@@ -58,6 +59,7 @@ pub fn put(out: &mut [u8], at: usize, bytes: &[u8]) -> usize
     after
 }
 
+#[tactic(auto, using(crate::proofs::Digits::as_digits))]
 fn put_number(out: &mut [u8], at: usize, n: u64) -> usize
     requires { at + length (digits n) ≤ length out.old }
     ensures { Laid out.old at (digits n) out.new result }
@@ -68,6 +70,7 @@ fn put_number(out: &mut [u8], at: usize, n: u64) -> usize
 }
 
 // A word and its number.
+#[tactic(auto, unfolding(crate::specs::Text::said))]
 pub fn say(out: &mut [u8], at: usize, word: &[u8], n: u64) -> usize
     requires { at + length (said word.now n) ≤ length out.old }
     ensures { Laid out.old at (said word.now n) out.new result }
@@ -77,7 +80,7 @@ pub fn say(out: &mut [u8], at: usize, word: &[u8], n: u64) -> usize
 }
 
 // A word and its number: `least N`, `legal N`, `source drives L`.
-#[tactic(auto, using(crate::proofs::Digits::said_in_64))]
+#[tactic(auto, unfolding(crate::specs::Text::count_line), using(crate::proofs::Digits::said_in_64))]
 pub fn count_line(word: &[u8], n: u64) -> Line
     requires { length word.now ≤ 43 }
     ensures { IsLine (count_line word.now n) result }
@@ -89,7 +92,7 @@ pub fn count_line(word: &[u8], n: u64) -> Line
 }
 
 // Two words, each with its number: `wire W offset O`, `refused N place P`, `legal N least M`.
-#[tactic(auto, using(crate::proofs::Digits::said_in_64))]
+#[tactic(auto, unfolding(crate::specs::Text::pair_line), using(crate::proofs::Digits::said_in_64))]
 pub fn pair_line(first: &[u8], n: u64, second: &[u8], m: u64) -> Line
     requires { length first.now + length second.now ≤ 23 }
     ensures { IsLine (pair_line first.now n second.now m) result }
@@ -102,7 +105,7 @@ pub fn pair_line(first: &[u8], n: u64, second: &[u8], m: u64) -> Line
 }
 
 // `wire W offset O drives L`: an entry and its load.
-#[tactic(auto, using(crate::proofs::Digits::said_in_16, crate::proofs::Digits::said_in_32, crate::proofs::Digits::said_in_64))]
+#[tactic(auto, unfolding(crate::specs::Text::entry_line), using(crate::proofs::Digits::said_in_16, crate::proofs::Digits::said_in_32, crate::proofs::Digits::said_in_64))]
 pub fn entry_line(wire: u16, offset: u32, load: u64) -> Line
     ensures { IsLine (entry_line wire offset load) result }
 {
@@ -122,6 +125,7 @@ fn place_line(wire: u16, offset: u32) -> Line
 }
 
 // `refused N place P`.
+#[tactic(auto, unfolding(crate::specs::Text::refused_line))]
 pub fn refused_line(why: Refusal) -> Line
     ensures { IsLine (refused_line why) result }
 {
@@ -142,6 +146,7 @@ pub fn put_line(out: &mut [u8], at: usize, line: Line) -> usize
 }
 
 // Lays one line an entry.
+#[tactic(auto, unfolding(crate::specs::Text::entry_lines))]
 fn put_entries(out: &mut [u8], at: usize, placement: &LentPlacement, loads: &[u64]) -> usize
     requires offsets_len { (length placement.now.offsets.now ≡ length placement.now.wires.now) × (length loads.now ≡ length placement.now.wires.now) }
     requires wires_in_bounds { at + 64 * length placement.now.wires.now ≤ length out.old }
@@ -157,6 +162,7 @@ fn put_entries(out: &mut [u8], at: usize, placement: &LentPlacement, loads: &[u6
 }
 
 // Lays one line an entry, without its load.
+#[tactic(auto, unfolding(crate::specs::Text::place_lines))]
 fn put_places(out: &mut [u8], at: usize, placement: &LentPlacement) -> usize
     requires offsets_len { length placement.now.offsets.now ≡ length placement.now.wires.now }
     requires wires_in_bounds { at + 64 * length placement.now.wires.now ≤ length out.old }
