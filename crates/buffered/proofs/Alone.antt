@@ -1,6 +1,6 @@
 -- Wire by wire where nothing is given: the walks beside given entries pass none.
 use Prim.Native.Nat.{ℕ, ◌+◌, ◌-◌, ◌≤◌, ◌<◌}
-use mathlib.Core.Path.{◌≡◌, refl, ap, ◌∙◌}
+use mathlib.Core.Path.{◌≡◌, refl, subst, ap, ◌∙◌}
 use mathlib.Core.List.{List, []}
 use lib.ListN.{length}
 use native.Mathlib.Omega.{arith}
@@ -26,8 +26,11 @@ module _ {τ : Cell} {sizes below on : List ℕ} (ready : Ready τ sizes below o
   passes : 1 ≤ i → Lined [] [] i 0 → Passed τ [] [] 0 x to (record { next = 0; to = to; at = 0; load = x.below }) []
   passes lo l = let b = begins ready l lo hi is in passed_all eq pos small b (walking_start eq pos small b) (omega arith)
 
-  pub count_next : Counting ready i 0 to → (k : ℕ) → k ≡ ceil τ (x.size + x.below) → Counting ready (i + 1) 0 ((to + k) + x.top)
-  count_next c k e = let z : x.size ≡ x.size - 0 = omega arith in counting_next ready eq pos small c hi is (passes c.lo c.lined) k (e ∙ ap (λ (s : ℕ). ceil τ (s + x.below)) z)
+  pub count_next : Counting ready i 0 to → (k : ℕ) → k ≡ ceil τ (x.size + x.below) → Counting ready (i + 1) 0 (to + (k + x.top))
+  count_next c k e =
+      let z : x.size ≡ x.size - 0 = omega arith in
+      let sum : (to + k) + x.top ≡ to + (k + x.top) = omega arith in
+      subst (Counting ready (i + 1) 0) sum (counting_next ready eq pos small c hi is (passes c.lo c.lined) k (e ∙ ap (λ (s : ℕ). ceil τ (s + x.below)) z))
 
   module _ {wires₀ offs₀ wires offs : List ℕ} (g : Written ready wires₀ offs₀ i 0 to wires offs) where
     pub write_room : length (all_added τ sizes below on []) ≤ length wires₀ → length (all_added τ sizes below on []) ≤ length offs₀ → Room (added_from τ x.size x.top 0 x.below []) to wires offs

@@ -2,56 +2,44 @@
 #![tactic(auto)]
 
 ghost use Rattle.std.specs.Prelude.{◌≡◌, [], ◌≤◌, length};
-ghost use Rattle.rules.specs.Net.{Net, net_at};
+ghost use Rattle.rules.specs.Net.{Net, net_of};
 ghost use Rattle.rules.specs.Legal.{Legal, Least};
 ghost use Rattle.rules.specs.Sound.{SoundNet};
-ghost use Rattle.states.specs.States.{model_of, limits_of, CellOk};
+ghost use Rattle.states.specs.States.{model_of};
 ghost use Rattle.columns.specs.Columns.{Holds};
 ghost use Rattle.adding.specs.Walks.{all_added, Ready};
 ghost use Rattle.solution.specs.Answer.{Outcome};
 
-use solution::Solved;
+use adding::Wire;
+use buffers::{PLACES, Tables};
+use rules::{LentNet, Refusal};
 use states::Cell;
 
-// The places of a table over nodes.
-const PLACES: usize = 1025;
-
 // How many entries there are on all the wires.
-fn count(c: Cell, wire: &[u32], below: &[u32], on: &[u8]) -> u64
-    requires { CellOk c × Ready (model_of c) wire.now below.now on.now [] [] }
-    ensures { result ≡ length (all_added (model_of c) wire.now below.now on.now []) }
+fn count(c: Cell, wire: &[u32], tables: &Tables) -> u64
+    requires { Ready (model_of c) wire.now tables.now.below tables.now.on [] [] }
+    ensures { result ≡ length (all_added (model_of c) wire.now tables.now.below tables.now.on []) }
 {
-    let mut i: usize = 1;
-    let mut to: usize = 0;
-    while i < wire.len() {
-        let x = adding::wire_at(wire, below, on, i);
-        let r = adding::takes(c, x.size + x.below);
-        to = to + r + x.top;
-        i = i + 1;
+    let mut to = 0;
+    for i in 1..wire.len() {
+        let x = Wire::at(wire, tables, i);
+        to += adding::takes(c, x.size + x.below) + x.top;
     }
     to as u64
 }
 
 // All m of them, in list order, into the first places of the lent columns.
-fn write(
-    c: Cell,
-    wire: &[u32],
-    below: &[u32],
-    on: &[u8],
-    wires: &mut [u16],
-    offsets: &mut [u32],
-    m: usize,
-)
-    requires cell_ok { CellOk c × Ready (model_of c) wire.now below.now on.now [] [] }
-    requires m_value { (m ≡ length (all_added (model_of c) wire.now below.now on.now [])) × (m ≤ length wires.old) × (m ≤ length offsets.old) }
-    ensures { Holds (all_added (model_of c) wire.now below.now on.now []) wires.old offsets.old wires.new offsets.new }
+fn write(c: Cell, wire: &[u32], tables: &Tables, wires: &mut [u16], offsets: &mut [u32], m: usize)
+    requires ready { Ready (model_of c) wire.now tables.now.below tables.now.on [] [] }
+    requires m_value { (m ≡ length (all_added (model_of c) wire.now tables.now.below tables.now.on [])) × (m ≤ length wires.old) × (m ≤ length offsets.old) }
+    ensures { Holds (all_added (model_of c) wire.now tables.now.below tables.now.on []) wires.old offsets.old wires.new offsets.new }
 {
-    let mut i: usize = 1;
-    let mut to: usize = 0;
+    let mut i = 1;
+    let mut to = 0;
     while to < m {
-        let x = adding::wire_at(wire, below, on, i);
-        to = adding::write_above(c, x, wires, offsets, to, 0, x.below);
-        i = i + 1;
+        let x = Wire::at(wire, tables, i);
+        to = adding::write_above(c, x, wires, offsets, x.begin(0, to));
+        i += 1;
     }
 }
 
@@ -59,46 +47,28 @@ fn write(
 fn place(
     c: Cell,
     wire: &[u32],
-    below: &[u32],
-    on: &[u8],
+    tables: &Tables,
     wires: &mut [u16],
     offsets: &mut [u32],
-) -> Solved
-    requires { CellOk c × Ready (model_of c) wire.now below.now on.now [] [] }
-    ensures { (n : Net) → Legal n (all_added (model_of c) wire.now below.now on.now []) → Least n (length (all_added (model_of c) wire.now below.now on.now [])) → Outcome n wires.old offsets.old wires.new offsets.new result }
+) -> Result<usize, Refusal>
+    requires { Ready (model_of c) wire.now tables.now.below tables.now.on [] [] }
+    ensures { (n : Net) → Legal n (all_added (model_of c) wire.now tables.now.below tables.now.on []) → Least n (length (all_added (model_of c) wire.now tables.now.below tables.now.on [])) → Outcome n wires.old offsets.old wires.new offsets.new result }
 {
-    let m = count(c, wire, below, on);
+    let m = count(c, wire, tables);
     if columns::room(wires.len(), offsets.len()) < m {
-        return Solved::Refused(rules::Refusal::NoRoom(m));
+        return Err(Refusal::NoRoom(m));
     }
-    write(c, wire, below, on, wires, offsets, m as usize);
-    Solved::Placed(m as usize)
+    write(c, wire, tables, wires, offsets, m as usize);
+    Ok(m as usize)
 }
 
 // The answer for a net that is sound.
-pub fn answer(
-    c: Cell,
-    parent: &[u16],
-    wire: &[u32],
-    kind: &[u8],
-    pin: &[u32],
-    polarity: &[u8],
-    wires: &mut [u16],
-    offsets: &mut [u32],
-) -> Solved
-    requires { CellOk c × SoundNet (net_at (limits_of c) parent wire kind pin polarity) × (c.repeater ≡ 0) }
-    ensures { Outcome (net_at (limits_of c) parent.entry wire.entry kind.entry pin.entry polarity.entry) wires.old offsets.old wires.new offsets.new result }
+pub fn solve(net: &LentNet, wires: &mut [u16], offsets: &mut [u32]) -> Result<usize, Refusal>
+    requires { SoundNet (net_of net.now) × (net.now.limits.repeater ≡ 0) }
+    ensures { Outcome (net_of net.now) wires.old offsets.old wires.new offsets.new result }
 {
-    let leads = [0u32; PLACES];
-    let mut below = [0u32; PLACES];
-    let mut tops = [0u32; PLACES];
-    let mut on = [0u8; PLACES];
-    let mut links = [1025u16; PLACES];
-    let fits = buffers::ascend(
-        c, parent, wire, kind, pin, polarity, &leads, &mut below, &mut tops, &mut on, &mut links,
-    );
-    if !fits {
-        return Solved::Refused(rules::Refusal::NoLegalPlacement);
-    }
-    place(c, wire, &below, &on, wires, offsets)
+    let cell = Cell::of(net.limits);
+    let mut tables = Tables::blank();
+    tables.ascend(cell, net, &[0; PLACES])?;
+    place(cell, net.wire, &tables, wires, offsets)
 }

@@ -1,0 +1,43 @@
+-- The tables begin cleared; what the way up says of every node decides the answer.
+use Rattle.std.proofs.Common.{refl, replicate, arith}
+use Rattle.std.proofs.lemmas.Result.{err_from_is_err_and}
+use Rattle.rules.specs.Figures.{most_places}
+use Rattle.rules.specs.Net.{net_of}
+use Rattle.rules.specs.Load.{entries}
+use Rattle.rules.proofs.Completing.{legal_alone, least_alone, none_alone}
+use Rattle.states.specs.States.{model_of}
+use Rattle.buffers.specs.Going.{leads_in}
+use Rattle.buffers.proofs.Ascending.{tried_ok, tried_err}
+use Rattle.buffers.proofs.Clearing.{going_none}
+use Rattle.adding.proofs.Marking.{led_low, lost_none, ready, completes, least}
+use Rattle.buffered.proofs.Answering.{none_given, none_leads, eight}
+use Rattle.buffered.proofs.solve.Goals as goal
+
+pub ascend-requires-clause-sound : goal.ascend-requires-clause-sound
+ascend-requires-clause-sound c = let (sound, buffers) = c.requires in (sound, led_low c.of-cell.result c.of-cell.ensures.1 sound buffers (none_given _) (none_leads most_places) refl)
+
+pub ascend-requires-clause-blank : goal.ascend-requires-clause-blank
+ascend-requires-clause-blank c =
+    rw c.blank-tables.ensures (going_none most_places (model_of c.of-cell.result) (net_of c.args.net.now) (leads_in (replicate most_places 0)) c.requires.0.few (omega arith))
+
+pub returns-in_err-ascend : goal.returns-in_err-ascend
+unfolding entries
+returns-in_err-ascend c =
+    let (sound, buffers) = c.requires in
+    let p = err_from_is_err_and c.from_residual.result c.from_residual.ensures.1 in
+    let (lost, is) = tried_err c.in_err-ascend.ensures refl in
+    rw (p.1, p.2, is) (eight c.args.wires.now c.args.offsets.now (none_alone.0 (lost_none c.of-cell.result c.of-cell.ensures.1 sound buffers (none_given _) (none_leads most_places) lost)))
+
+pub place-requires : goal.place-requires
+place-requires c =
+    let (sound, buffers) = c.requires in
+    ready c.of-cell.result c.of-cell.ensures.1 sound buffers (none_given _) (none_leads most_places) _ (tried_ok c.in_ok-ascend.ensures refl)
+
+pub returns : goal.returns
+unfolding entries
+returns c =
+    let (sound, buffers) = c.requires in
+    let going = tried_ok c.in_ok-ascend.ensures refl in
+    c.place.ensures _
+    (legal_alone.0 (completes c.of-cell.result c.of-cell.ensures.1 sound buffers (none_given _) (none_leads most_places) _ going))
+    (least_alone.0 (least c.of-cell.result c.of-cell.ensures.1 sound buffers (none_given _) (none_leads most_places) _ going))
