@@ -1,13 +1,12 @@
 -- What the carry's outcome says between two sound nets: the refusal that is shown, or columns that can be written.
+use Rattle.std.specs.Prelude.{Ok, Err}
 use Prim.Native.Nat.{ℕ}
 use native.Mathlib.Omega.{arith}
 use mathlib.Core.Path.{◌≡◌, refl, sym, ap, subst, ◌∙◌}
 use mathlib.Core.List.{List}
 use lib.ListN.{length}
 use Rattle.rules.specs.declared.Entry.{Entry}
-use Rattle.rules.specs.declared.Judged.{Judged}
-use Rattle.rules.specs.declared.Judged.TheVariants.{Sound, Refused}
-use Rattle.rules.specs.declared.Refusal.{Refusal}
+use Rattle.rules.specs.Judged.{Judged}
 use Rattle.rules.specs.Net.{Net}
 use Rattle.rules.specs.Load.{entries}
 use Rattle.rules.specs.Legal.{start}
@@ -19,8 +18,7 @@ use Rattle.rules.proofs.SoundSays.{sound_says}
 use Rattle.checker.specs.Verdict.{LegalColumns}
 use Rattle.checker.proofs.CheckedIsLegal.{checked_is_legal}
 use Rattle.checker.proofs.VerdictSays.{columns_even, columns_few}
-use Rattle.carry.specs.declared.Outcome.{Outcome}
-use Rattle.carry.specs.Carry.{offsets_of, placement_of, column_after, CarriedIs}
+use Rattle.carry.specs.Carry.{Outcome, offsets_of, placement_of, column_after, CarriedIs}
 use Rattle.carry.proofs.Cut.{cut_entries}
 use Rattle.carry.proofs.CarriedIsLegal.{carried_is_legal}
 use Rattle.placement_file.specs.File.{placement_bytes}
@@ -47,27 +45,20 @@ legal_fit {m} {ws} {os} l =
 abbrev pub judgement : Net → Net → List ℕ → List ℕ → Judged
 judgement n m ws os = then_judge (ease_judged n m) (checked n ws os)
 
-refused : (o : Outcome) (j : Judged) (count : ℕ) (why : Refusal) → o ≡ placement_of j count → o ≡ Outcome.Refused why → j ≡ Refused why
-refused o Sound count why e f = absurd (let z : ◌≡◌ {A = ℕ} 0 1 = cc in omega arith)
-refused o (Refused r) count why e f = let q : r ≡ why = cc in ap Refused q
+carried_all : {o : Outcome} {k : ℕ} (j : Judged) (count : ℕ) → o ≡ placement_of j count → o ≡ Ok k → j ≡ Ok tt
+carried_all (Ok _) count e f = refl
+carried_all (Err r) count e f = absurd (let z : ◌≡◌ {A = ℕ} 0 1 = cc in omega arith)
 
-not_refused : (o : Outcome) (j : Judged) (count : ℕ) → o ≡ placement_of j count → ((why : Refusal) → o ≡ Outcome.Refused why → ⊥) → j ≡ Sound
-not_refused o Sound count e h = refl
-not_refused o (Refused r) count e h = absurd (h r e)
-
-module _ {n m : Net} (ws os : List ℕ) {after : List ℕ} {r : Outcome} (a : judged n ≡ Sound) (b : judged m ≡ Sound) (is : CarriedIs n m ws os r after) where
+module _ {n m : Net} (ws os : List ℕ) {after : List ℕ} {r : Outcome} (a : judged n ≡ Ok tt) (b : judged m ≡ Ok tt) (is : CarriedIs n m ws os r after) where
   -- the nets' own refusals do not come
   sound_nets : r ≡ placement_of (judgement n m ws os) (length ws)
   sound_nets = is.answer ∙ rw (a, b)
 
-  pub carry_refuses : (why : Refusal) → r ≡ Outcome.Refused why → judgement n m ws os ≡ Refused why
-  carry_refuses why e = refused r (judgement n m ws os) (length ws) why sound_nets e
+  pub carry_passes : (count : ℕ) → r ≡ Ok count → judgement n m ws os ≡ Ok tt
+  carry_passes count e = carried_all (judgement n m ws os) (length ws) sound_nets e
 
-  pub carry_passes : ((why : Refusal) → r ≡ Outcome.Refused why → ⊥) → judgement n m ws os ≡ Sound
-  carry_passes other = not_refused r (judgement n m ws os) (length ws) sound_nets other
-
-  module _ (passed : judgement n m ws os ≡ Sound) where
-    all_carried : r ≡ Outcome.Carried (length ws)
+  module _ (passed : judgement n m ws os ≡ Ok tt) where
+    all_carried : r ≡ Ok (length ws)
     all_carried = sound_nets ∙ ap (λ (j : Judged). placement_of j (length ws)) passed
 
     pub carry_legal : LegalColumns m ws after

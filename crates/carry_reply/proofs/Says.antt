@@ -1,10 +1,10 @@
 -- What `carry` writes is legal on the second net: where it answers, between two sound nets, its file is read as the entries that it prints,
 -- and `check` says of them `legal N`, with the N of `carried N`.
+use Rattle.std.specs.Prelude.{Ok}
 use Prim.Native.Nat.{ℕ}
 use mathlib.Core.Path.{◌≡◌, refl, sym, ap, subst, ◌∙◌}
 use mathlib.Core.List.{List, [], map}
 use Rattle.rules.specs.declared.Entry.{Entry}
-use Rattle.rules.specs.declared.Judged.TheVariants.{Sound}
 use Rattle.rules.specs.Net.{Net}
 use Rattle.rules.specs.Load.{entries}
 use Rattle.rules.specs.Judge.{judged}
@@ -27,7 +27,7 @@ pub record Written (n m : Net) (ws os : List ℕ) : Type 0 where
   pub printed : (carry_said n m ws os).text ≡ counted_text carried_word (map wire placed) (map offset placed)
   pub legal : check_said m (map wire placed) (map offset placed) ≡ answered (legal_text m (map wire placed) (map offset placed)) []
 
-module _ (n m : Net) (ws os : List ℕ) (a : judged n ≡ Sound) (b : judged m ≡ Sound) where
+module _ (n m : Net) (ws os : List ℕ) (a : judged n ≡ Ok tt) (b : judged m ≡ Ok tt) where
   pub carry_written : (carry_said n m ws os).status ≡ 48 → Written n m ws os
   carry_written e =
       let after = column_after (outcome n m ws os) m ws os in

@@ -1,9 +1,8 @@
 // What the verb `carry` says of a placement taken to a net that eases its own.
 #![tactic(auto)]
 
-ghost use Rattle.std.specs.Prelude.{◌≤◌, ◌≡◌, length};
-ghost use Rattle.rules.specs.declared.Judged.TheVariants.{Sound};
-ghost use Rattle.rules.specs.Net.{net_at};
+ghost use Rattle.std.specs.Prelude.{◌≤◌, ◌≡◌, Ok, length};
+ghost use Rattle.rules.specs.Net.{net_of};
 ghost use Rattle.rules.specs.Load.{entries};
 ghost use Rattle.rules.specs.Judge.{judged};
 ghost use Rattle.placement_file.specs.File.{placement_bytes};
@@ -11,56 +10,43 @@ ghost use Rattle.answer.specs.Text.{counted_text};
 ghost use Rattle.reply.specs.Said.{answered, Replies, most_text, most_file};
 ghost use Rattle.carry_reply.specs.Carries.{carried_word, Fit, carry_said};
 
-use carry::Outcome;
-use reply::Reply;
-use rules::Limits;
+use carry::NotCarried;
+use reply::{Reply, Status};
+use rules::{LentNet, LentPlacement};
 
-// `carried N`, the entries of two columns that are fit to be written, and their file.
-fn tell(wires: &[u16], offsets: &[u32], out: &mut [u8], file: &mut [u8]) -> Reply
-    requires fit { Fit wires.now offsets.now }
-    requires most_text_in_bounds { (most_text ≤ length out.old) × (most_file ≤ length file.old) }
-    ensures { Replies (answered (counted_text carried_word wires.now offsets.now) (placement_bytes (entries wires.now offsets.now))) out.new file.new result }
+// `carried N`, the entries of a placement that is fit to be written, and their file.
+fn tell(placement: &LentPlacement, out: &mut [u8], file: &mut [u8]) -> Reply
+    requires fit { Fit placement.now.wires.now placement.now.offsets.now }
+    requires room { (most_text ≤ length out.old) × (most_file ≤ length file.old) }
+    ensures { Replies (answered (counted_text carried_word placement.now.wires.now placement.now.offsets.now) (placement_bytes (entries placement.now.wires.now placement.now.offsets.now))) out.new file.new result }
 {
-    let text = answer::put_counted(out, b"carried ", wires, offsets);
-    let size = reply::write_file(wires, offsets, file);
+    let text = answer::put_counted(out, b"carried ", placement);
+    let size = reply::write_file(placement, file);
     Reply {
-        text: text,
+        text,
         file: size,
-        status: reply::ANSWERED,
+        status: Status::Answered,
     }
 }
 
 // Takes a placement of the first net to the second; both are sound, as nets that were read from files are. The offsets are cut.
 pub fn carry(
-    limits: Limits,
-    parent: &[u16],
-    wire: &[u32],
-    kind: &[u8],
-    pin: &[u32],
-    polarity: &[u8],
-    limits2: Limits,
-    parent2: &[u16],
-    wire2: &[u32],
-    kind2: &[u8],
-    pin2: &[u32],
-    polarity2: &[u8],
+    first: &LentNet,
+    second: &LentNet,
     wires: &[u16],
     offsets: &mut [u32],
     out: &mut [u8],
     file: &mut [u8],
 ) -> Reply
-    requires polarity_value { judged (net_at limits parent wire kind pin polarity) ≡ Sound }
-    requires polarity2_value { judged (net_at limits2 parent2 wire2 kind2 pin2 polarity2) ≡ Sound }
-    requires most_text_in_bounds { (most_text ≤ length out.old) × (most_file ≤ length file.old) }
-    ensures { Replies (carry_said (net_at limits parent.entry wire.entry kind.entry pin.entry polarity.entry) (net_at limits2 parent2.entry wire2.entry kind2.entry pin2.entry polarity2.entry) wires.now offsets.old) out.new file.new result }
+    requires first_sound { judged (net_of first.now) ≡ Ok tt }
+    requires second_sound { judged (net_of second.now) ≡ Ok tt }
+    requires room { (most_text ≤ length out.old) × (most_file ≤ length file.old) }
+    ensures { Replies (carry_said (net_of first.now) (net_of second.now) wires.now offsets.old) out.new file.new result }
 {
-    let outcome = carry::carry(
-        limits, parent, wire, kind, pin, polarity, limits2, parent2, wire2, kind2, pin2, polarity2,
-        wires, offsets,
-    );
-    if let Outcome::Refused(why) = outcome {
-        return reply::refuse(out, b"", why);
+    match carry::carry(first, second, wires, offsets) {
+        Ok(_) => tell(&LentPlacement { wires, offsets }, out, file),
+        // Neither net is refused: both are sound.
+        Err(NotCarried::FirstNet(why) | NotCarried::SecondNet(why) | NotCarried::Carry(why)) =>
+            reply::refuse(out, b"", why),
     }
-    // Neither net is refused: what is left is that the placement was carried.
-    tell(wires, offsets, out, file)
 }
