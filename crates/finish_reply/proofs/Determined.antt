@@ -1,5 +1,6 @@
 -- Two replies that conform are the same refusal, or both add the same number of entries and have files of the same length: which entries are added is all that is
 -- left open.
+use Rattle.std.specs.Prelude.{Ok, Err}
 use Prim.Native.Nat.{ℕ, ◌+◌, ◌*◌}
 use native.Mathlib.Omega.{arith}
 use mathlib.Core.Path.{◌≡◌, refl, sym, ap, ◌∙◌}
@@ -9,8 +10,7 @@ use lib.ListN.{length, length-map}
 use lib.Dec.{leb}
 use Rattle.rules.specs.declared.Entry.{Entry}
 use Rattle.rules.specs.declared.Refusal.TheVariants.{NoRoom}
-use Rattle.rules.specs.declared.Judged.{Judged}
-use Rattle.rules.specs.declared.Judged.TheVariants.{Sound, Refused}
+use Rattle.rules.specs.Judged.{Judged}
 use Rattle.rules.specs.Figures.{most_entries}
 use Rattle.rules.specs.Choose.{pick}
 use Rattle.rules.specs.Net.{Net}
@@ -57,5 +57,5 @@ pub agree : (n : Net) (ws os : List ℕ) {s s' : Said} → Finishes n ws os s �
 agree n ws os {s} {s'} = by (half_judged n ws os)
   where
     by : (j : Judged) → FinishesBy j n (entries ws os) s → FinishesBy j n (entries ws os) s' → Agree s s'
-    by Sound a b = net_agree a b
-    by (Refused r) a b = same (a ∙ sym b)
+    by (Ok _) a b = net_agree a b
+    by (Err r) a b = same (a ∙ sym b)

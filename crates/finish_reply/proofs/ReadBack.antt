@@ -1,4 +1,5 @@
 -- An answer's file, where the whole has at most 4,096 entries, is read as the whole: it has the given entries, it is legal, and the checker finds it so.
+use Rattle.std.specs.Prelude.{Ok, Err}
 use Prim.Native.Nat.{ℕ, ◌≤◌}
 use native.Mathlib.Omega.{arith}
 use mathlib.Core.Path.{◌≡◌, refl, sym, ap, ◌∙◌}
@@ -7,8 +8,7 @@ use lib.ListN.{length, length-map}
 use lib.Dec.{eqb}
 use borrow.Author.Tests.{eq-eqb, le-leb}
 use Rattle.rules.specs.declared.Entry.{Entry}
-use Rattle.rules.specs.declared.Judged.{Judged}
-use Rattle.rules.specs.declared.Judged.TheVariants.{Sound, Refused}
+use Rattle.rules.specs.Judged.{Judged}
 use Rattle.rules.specs.declared.Refusal.TheVariants.{OutOfRange}
 use Rattle.rules.specs.Figures.{most_entries}
 use Rattle.rules.specs.Net.{Net}
@@ -36,13 +36,13 @@ pub record ReadsBack (n : Net) (g : List Entry) (s : Said) : Type 0 where
   pub legal : Legal n whole
   pub file : s.file ≡ file_of whole
   pub read : length whole ≤ most_entries → placement_of s.file ≡ placement whole
-  pub checks : length whole ≤ most_entries → checked n (map wire whole) (map offset whole) ≡ Sound
+  pub checks : length whole ≤ most_entries → checked n (map wire whole) (map offset whole) ≡ Ok tt
 
-own : (n : Net) (ws os : List ℕ) → half_judged n ws os ≡ Sound → judged n ≡ Sound
+own : (n : Net) (ws os : List ℕ) → half_judged n ws os ≡ Ok tt → judged n ≡ Ok tt
 unfolding half_judged
 own n ws os e = (then_met (judged n) (then_judge (unless (eqb n.limits.repeater 0) (OutOfRange 0)) (stood n ws os)) e).0
 
-legal_checked : (n : Net) (p : List Entry) → judged n ≡ Sound → Legal n p → length p ≤ most_entries → checked n (map wire p) (map offset p) ≡ Sound
+legal_checked : (n : Net) (p : List Entry) → judged n ≡ Ok tt → Legal n p → length p ≤ most_entries → checked n (map wire p) (map offset p) ≡ Ok tt
 unfolding checked
 legal_checked n p sound legal few =
     let w = length-map p wire in
@@ -50,7 +50,7 @@ legal_checked n p sound legal few =
     rw (sound, eq-eqb (length (map offset p)) (length (map wire p)) (o ∙ sym w), le-leb (length (map wire p)) most_entries (omega arith), entries_back p) (legal_judged n p legal)
 
 module _ (n : Net) (ws os : List ℕ) {s : Said} (answer : s.status ≡ 48) where
-  by_net : half_judged n ws os ≡ Sound → FinishesNet n (entries ws os) s → ReadsBack n (entries ws os) s
+  by_net : half_judged n ws os ≡ Ok tt → FinishesNet n (entries ws os) s → ReadsBack n (entries ws os) s
   by_net j (none h e) = absurd (omega (arith, ap (λ (s : Said). s.status) e))
   by_net j (full k l m e) = absurd (omega (arith, ap (λ (s : Said). s.status) e))
   by_net j (finished a w joins legal l m e) = record {
@@ -67,5 +67,5 @@ module _ (n : Net) (ws os : List ℕ) {s : Said} (answer : s.status ≡ 48) wher
   reads_back f = by (half_judged n ws os) refl f
     where
       by : (j : Judged) → half_judged n ws os ≡ j → FinishesBy j n (entries ws os) s → ReadsBack n (entries ws os) s
-      by Sound q x = by_net q x
-      by (Refused r) q x = absurd (omega (arith, ap (λ (s : Said). s.status) x))
+      by (Ok _) q x = by_net q x
+      by (Err r) q x = absurd (omega (arith, ap (λ (s : Said). s.status) x))

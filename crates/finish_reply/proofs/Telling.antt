@@ -1,4 +1,5 @@
 -- What the finisher's answer says of the reply.
+use Rattle.std.specs.Prelude.{Ok, Err, Result}
 use Prim.Native.Nat.{ℕ, ◌≤◌}
 use native.Mathlib.Omega.{arith}
 use mathlib.Core.Path.{◌≡◌, refl, sym, ap, subst, ◌∙◌}
@@ -7,8 +8,7 @@ use lib.ListN.{length, take, length-map}
 use lib.Seq.{length-sets}
 use Rattle.rules.specs.declared.Entry.{Entry}
 use Rattle.rules.specs.declared.Refusal.{Refusal}
-use Rattle.rules.specs.declared.Judged.{Judged}
-use Rattle.rules.specs.declared.Judged.TheVariants as judge
+use Rattle.rules.specs.Judged.{Judged}
 use Rattle.rules.specs.Figures.{most_entries}
 use Rattle.rules.specs.Net.{Net}
 use Rattle.rules.specs.Load.{entries}
@@ -17,8 +17,6 @@ use Rattle.rules.specs.Sound.{SoundNet}
 use Rattle.placement_file.specs.File.{wire, offset}
 use Rattle.placement_file.proofs.RoundTrip.{entries_back}
 use Rattle.placement_file.proofs.SamePlacement.{stored}
-use Rattle.finish.specs.declared.Finished.{Finished}
-use Rattle.finish.specs.declared.Finished.TheVariants.{Added, Refused}
 use Rattle.finish.specs.Answer.{half_judged, Outcome, none, full, finished, Answered}
 use Rattle.finish.proofs.Judging.{half_sound}
 use Rattle.answer.specs.Text.{counted_text}
@@ -30,7 +28,7 @@ use Rattle.finish_reply.specs.Finishes.{none as says_none, full as says-full, fi
 
 -- k entries in the first places of two columns complete the given ones, and no fewer do
 pub record Completing (n : Net) (gw go : List ℕ) (k : ℕ) (ws os : List ℕ) : Type 0 where
-  pub judged : half_judged n gw go ≡ judge.Sound
+  pub judged : half_judged n gw go ≡ Ok tt
   pub least : LeastAdded n (entries gw go) k
   pub completes : Completes n (entries gw go) (entries (take k ws) (take k os))
   pub in_wires : k ≤ length ws
@@ -42,8 +40,8 @@ pub record Completing (n : Net) (gw go : List ℕ) (k : ℕ) (ws os : List ℕ) 
   pub long : length (entries (take k ws) (take k os)) ≡ k
   pub few : k ≤ most_entries
 
-module _ (n : Net) (gw go ws os : List ℕ) {ws' os' : List ℕ} {r : Finished} (k : ℕ) (e : r ≡ Added k) where
-  by_outcome : half_judged n gw go ≡ judge.Sound → Outcome n (entries gw go) ws os ws' os' r → Completing n gw go k ws' os'
+module _ (n : Net) (gw go ws os : List ℕ) {ws' os' : List ℕ} {r : Result ℕ Refusal} (k : ℕ) (e : r ≡ Ok k) where
+  by_outcome : half_judged n gw go ≡ Ok tt → Outcome n (entries gw go) ws os ws' os' r → Completing n gw go k ws' os'
   by_outcome j (none h f kept) = absurd (let z : ◌≡◌ {A = ℕ} 0 1 = cc in omega arith)
   by_outcome j (full m l o f kept) = absurd (let z : ◌≡◌ {A = ℕ} 0 1 = cc in omega arith)
   by_outcome j (finished a c l o f holds) =
@@ -73,8 +71,8 @@ module _ (n : Net) (gw go ws os : List ℕ) {ws' os' : List ℕ} {r : Finished} 
   completing a = by (half_judged n gw go) refl a
     where
       by : (j : Judged) → half_judged n gw go ≡ j → Answered j n (entries gw go) ws os ws' os' r → Completing n gw go k ws' os'
-      by judge.Sound q o = by_outcome q o
-      by (judge.Refused x) q o = let f = o.0 in absurd (let z : ◌≡◌ {A = ℕ} 0 1 = cc in omega arith)
+      by (Ok _) q o = by_outcome q o
+      by (Err x) q o = let f = o.0 in absurd (let z : ◌≡◌ {A = ℕ} 0 1 = cc in omega arith)
 
 module _ {n : Net} {gw go ws os : List ℕ} {k : ℕ} (p : Completing n gw go k ws os) where
   sound : SoundNet n
@@ -105,15 +103,15 @@ module _ {n : Net} {gw go ws os : List ℕ} {k : ℕ} (p : Completing n gw go k 
       }
 
 -- a refusal
-module _ (n : Net) (gw go ws os ws' os' : List ℕ) {r : Finished} (why : Refusal) (e : r ≡ Refused why) (long-wires : most_entries ≤ length ws) (long-offsets : most_entries ≤ length os) where
-  refused_outcome : Outcome n (entries gw go) ws os ws' os' r → FinishesBy judge.Sound n (entries gw go) (refusal [] why)
+module _ (n : Net) (gw go ws os ws' os' : List ℕ) {r : Result ℕ Refusal} (why : Refusal) (e : r ≡ Err why) (long-wires : most_entries ≤ length ws) (long-offsets : most_entries ≤ length os) where
+  refused_outcome : Outcome n (entries gw go) ws os ws' os' r → FinishesBy (Ok tt) n (entries gw go) (refusal [] why)
   refused_outcome (none h f kept) = says_none h (ap (refusal []) (cc))
   refused_outcome (full m l o f kept) = says-full m l (omega arith) (ap (refusal []) (cc))
   refused_outcome (finished a c l o f holds) = absurd (let z : ◌≡◌ {A = ℕ} 0 1 = cc in omega arith)
 
   refusing : (j : Judged) → Answered j n (entries gw go) ws os ws' os' r → FinishesBy j n (entries gw go) (refusal [] why)
-  refusing judge.Sound a = refused_outcome a
-  refusing (judge.Refused x) a = let f = a.0 in ap (refusal []) (cc)
+  refusing (Ok _) a = refused_outcome a
+  refusing (Err x) a = let f = a.0 in ap (refusal []) (cc)
 
   pub refused : {texts files : List ℕ} {reply : Reply} → Answered (half_judged n gw go) n (entries gw go) ws os ws' os' r → Replies (refusal [] why) texts files reply → Conveys (Finishes n gw go) texts files reply
   refused a s = record { said = refusal [] why; right = refusing (half_judged n gw go) a; replies = s }

@@ -1,9 +1,8 @@
 -- What the verb `finish` says of a net and of the given entries (RULES 11): the added entries, and the whole placement for a file.
-use Rattle.std.specs.Prelude.{ℕ, ◌≤◌, ◌<◌, ◌≡◌, List, [], ◌∷◌, map, length, leb}
+use Rattle.std.specs.Prelude.{ℕ, ◌≤◌, ◌<◌, ◌≡◌, List, [], ◌∷◌, map, length, leb, Ok, Err}
 use Rattle.rules.specs.declared.Entry.{Entry}
 use Rattle.rules.specs.declared.Refusal.TheVariants.{NoLegalPlacement, NoRoom}
-use Rattle.rules.specs.declared.Judged.{Judged}
-use Rattle.rules.specs.declared.Judged.TheVariants.{Sound, Refused}
+use Rattle.rules.specs.Judged.{Judged}
 use Rattle.rules.specs.Figures.{most_entries}
 use Rattle.rules.specs.Choose.{pick}
 use Rattle.rules.specs.Net.{Net}
@@ -32,8 +31,8 @@ pub data FinishesNet (n : Net) (g : List Entry) (s : Said) : Type 0 where
 
 -- by what is judged of the net and of the given entries
 abbrev pub FinishesBy : Judged → Net → List Entry → Said → Type 0
-FinishesBy Sound n g s = FinishesNet n g s
-FinishesBy (Refused r) n g s = s ≡ refusal [] r
+FinishesBy (Ok _) n g s = FinishesNet n g s
+FinishesBy (Err r) n g s = s ≡ refusal [] r
 
 abbrev pub Finishes : Net → List ℕ → List ℕ → Said → Type 0
 Finishes n ws os s = FinishesBy (half_judged n ws os) n (entries ws os) s

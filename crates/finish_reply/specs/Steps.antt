@@ -6,7 +6,7 @@ use Rattle.rules.specs.Load.{entries}
 use Rattle.rules.specs.Complete.{Completes}
 use Rattle.rules.specs.Sound.{SoundNet}
 use Rattle.answer.specs.Text.{counted_text}
-use Rattle.reply.specs.Said.{Shows}
+use Rattle.reply.specs.Said.{Shows, byte_of}
 use Rattle.reply.specs.declared.Reply.{Reply}
 use Rattle.finish_reply.specs.Finishes.{added_word, file_of}
 
@@ -27,4 +27,4 @@ ShowsWhole gw go aw ao files size = (n : Net) → SoundNet n → (c : Completes 
 pub record Tells (gw go aw ao texts files : List ℕ) (r : Reply) : Type 0 where
   pub text : Shows (counted_text added_word aw ao) texts r.text
   pub file : ShowsWhole gw go aw ao files r.file
-  pub status : r.status ≡ 48
+  pub status : byte_of r.status ≡ 48

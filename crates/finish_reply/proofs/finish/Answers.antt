@@ -1,26 +1,19 @@
 -- `finish` replies with the added entries and the whole, or with the finisher's refusal.
-use Prim.Native.Nat.{ℕ}
 use native.Mathlib.Omega.{arith}
-use lib.ListN.{replicate, length-replicate}
-use Rattle.rules.specs.Net.{net_at}
-use Rattle.finish_reply.proofs.Telling.{Completing, completing, completed, told, refused}
+use Rattle.rules.specs.Net.{net_of}
+use Rattle.finish_reply.proofs.Telling.{completing, completed, told, refused}
 use Rattle.finish_reply.proofs.finish.Goals as goal
 
 pub tell-requires : goal.tell-requires
 tell-requires c =
-    let n = net_at c.args.limits c.args.parent c.args.wire c.args.kind c.args.pin c.args.polarity in
-    let found : Completing n c.args.given.now c.args.offsets.now c.in-Added.count c.finish-finished.new.wires c.finish-finished.new.offs = completing n c.args.given.now c.args.offsets.now (replicate 4096 0) (replicate 4096 0) c.in-Added.count c.in-Added.is c.finish-finished.ensures in
-    (completed found, c.requires.0, c.requires.1)
+    let found = completing (net_of c.args.net.now) c.args.given.now.wires.now c.args.given.now.offsets.now _ _ c.in-Ok.count c.in-Ok.is c.finish.ensures in
+    (rw (c.lent.ensures.0, c.lent.ensures.1) (completed found), c.requires.0, c.requires.1)
 
-pub returns-in-Added : goal.returns-in-Added
-returns-in-Added c =
-    let n = net_at c.args.limits c.args.parent c.args.wire c.args.kind c.args.pin c.args.polarity in
-    let found : Completing n c.args.given.now c.args.offsets.now c.in-Added.count c.finish-finished.new.wires c.finish-finished.new.offs = completing n c.args.given.now c.args.offsets.now (replicate 4096 0) (replicate 4096 0) c.in-Added.count c.in-Added.is c.finish-finished.ensures in
-    told found c.tell.ensures
+pub returns-in-Ok : goal.returns-in-Ok
+returns-in-Ok c =
+    let found = completing (net_of c.args.net.now) c.args.given.now.wires.now c.args.given.now.offsets.now _ _ c.in-Ok.count c.in-Ok.is c.finish.ensures in
+    told found (rw (c.lent.ensures.0, c.lent.ensures.1) at c.tell.ensures)
 
 -- ---- where none were
-pub returns-in-Refused : goal.returns-in-Refused
-returns-in-Refused c =
-    let n = net_at c.args.limits c.args.parent c.args.wire c.args.kind c.args.pin c.args.polarity in
-    let long = length-replicate {A = ℕ} 4096 0 in
-    refused n c.args.given.now c.args.offsets.now (replicate 4096 0) (replicate 4096 0) c.finish-finished.new.wires c.finish-finished.new.offs c.in-Refused.why c.in-Refused.is (omega arith) (omega arith) c.finish-finished.ensures (c.refuse.ensures _)
+pub returns-in-Err : goal.returns-in-Err
+returns-in-Err c = refused (net_of c.args.net.now) c.args.given.now.wires.now c.args.given.now.offsets.now _ _ _ _ c.in-Err.why c.in-Err.is (omega arith) (omega arith) c.finish.ensures (c.refuse.ensures _)
