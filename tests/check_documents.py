@@ -30,7 +30,7 @@ CALLS = {
     "mustorgyel": "answer_input answer_all",
     "whole": "solve on_files carry audit",
     "audit_line": "missing_line",
-    "tally": "count tally_line status",
+    "tally": "count line status",
 }
 
 
@@ -142,7 +142,7 @@ def wrong_numbers():
 
 # ---------------------------------------------------------------- files of definitions
 
-USE = re.compile(r"^(?:ghost )?use Rattle\.(\w+)\.specs\.(\w+)(?:\.\{([^}]*)\}| as (\w+))?", re.M)
+USE = re.compile(r"^(?:ghost |pub )?use Rattle\.(\w+)\.specs\.(\w+)(?:\.\{([^}]*)\}| as (\w+))?", re.M)
 
 
 def uses(text):
@@ -155,8 +155,10 @@ def uses(text):
 
 def contract(source, function):
     """The lines that a function or a method ensures."""
-    head = re.search(rf"^ *(?:pub )?fn {function}\b.*?^ *\{{", source, re.M | re.S).group(0)
-    return "\n".join(line for line in head.splitlines() if "ensures" in line)
+    head = re.search(rf"^ *(?:pub )?fn {function}\b.*?^ *\{{", source, re.M | re.S)
+    if not head:
+        sys.exit(f"tests/check_documents.py: a call that it names is gone: {function}")
+    return "\n".join(line for line in head.group(0).splitlines() if "ensures" in line)
 
 
 def spoken_of():
