@@ -3,5 +3,5 @@ use Rattle.load.proofs.Parts.{offsets_to}
 use Rattle.senses.specs.Parity.{Counted}
 use Rattle.senses.proofs.count_turns.Given as goal
 
-abbrev pub invariant-loop-k : goal.invariant-loop-k
-invariant-loop-k l = Counted (offsets_to l.placement.wires.now l.placement.offsets.now l.k) 0 l.odd
+abbrev pub invariant-loop-wire : goal.invariant-loop-wire
+invariant-loop-wire l = Counted (offsets_to l.placement.wires.now l.placement.offsets.now l.wire-index) 0 l.odd
