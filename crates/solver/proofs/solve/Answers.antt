@@ -1,32 +1,23 @@
 -- The judge's refusal is handed on; of a sound net the answer is the inner one's, of either type.
 use native.Mathlib.Omega.{arith}
-use mathlib.Core.Path.{sym, subst, ap, ◌∙◌}
-use Rattle.rules.specs.declared.Limits.{Limits}
-use Rattle.rules.specs.Net.{net_at}
-use Rattle.rules.specs.Sound.{SoundNet}
+use mathlib.Core.Path.{sym}
+use Rattle.std.proofs.lemmas.Result.{err_from_is_err_and}
+use Rattle.rules.specs.Net.{net_of}
 use Rattle.rules.proofs.SoundSays.{sound_says}
 use Rattle.solver.proofs.Answering.{refused, answered}
 use Rattle.solver.proofs.solve.Goals as goal
 
-pub returns-in-Refused : goal.returns-in-Refused
-returns-in-Refused c = refused (net_at c.args.limits c.args.parent c.args.wire c.args.kind c.args.pin c.args.polarity) c.args.wires.now c.args.offsets.now (sym c.judge-verdict.ensures ∙ c.in-Refused.is)
+pub returns-in_err-judge : goal.returns-in_err-judge
+returns-in_err-judge c = let p = err_from_is_err_and c.from_residual.result c.from_residual.ensures.1 in rw (p.1, p.2) (refused (net_of c.args.net.now) c.args.wires.now c.args.offsets.now (sym c.in_err-judge.ensures))
 
-pub cell_from-c-requires : goal.cell_from-c-requires
-cell_from-c-requires c = let sound = sound_says (net_at c.args.limits c.args.parent c.args.wire c.args.kind c.args.pin c.args.polarity) (sym c.judge-verdict.ensures ∙ c.in_default.is) in (sound.half, sound.limit_most, sound.repeater_most)
+pub solve-requires : goal.solve-requires
+solve-requires c = let sound = sound_says (net_of c.args.net.now) (sym c.in_ok-judge.ensures) in (sound, c.if-net-eq0.true)
 
-pub answer-requires : goal.answer-requires
-answer-requires c =
-    let sound = sound_says (net_at c.args.limits c.args.parent c.args.wire c.args.kind c.args.pin c.args.polarity) (sym c.judge-verdict.ensures ∙ c.in_default.is) in
-    (c.cell_from-c.ensures.2, subst (λ (l : Limits). SoundNet (net_at l c.args.parent c.args.wire c.args.kind c.args.pin c.args.polarity)) (sym c.cell_from-c.ensures.1) sound, ap (λ (l : Limits). l.repeater) c.cell_from-c.ensures.1 ∙ c.if-repeater-eq0.true)
+pub returns-then-net-eq0 : goal.returns-then-net-eq0
+returns-then-net-eq0 c = answered (net_of c.args.net.now) c.args.wires.now c.args.offsets.now (sym c.in_ok-judge.ensures) c.solve.ensures
 
-pub returns-then-repeater-eq0 : goal.returns-then-repeater-eq0
-returns-then-repeater-eq0 c = answered c.cell_from-c.ensures.1 (sym c.judge-verdict.ensures ∙ c.in_default.is) c.answer.ensures
-
-pub answer-requires-2 : goal.answer-requires-2
-answer-requires-2 c =
-    let sound = sound_says (net_at c.args.limits c.args.parent c.args.wire c.args.kind c.args.pin c.args.polarity) (sym c.judge-verdict.ensures ∙ c.in_default.is) in
-    let r = ap (λ (l : Limits). l.repeater) c.cell_from-c.ensures.1 in
-    (c.cell_from-c.ensures.2, omega (arith, r, sound.repeater_most, c.if-repeater-eq0.false), subst (λ (l : Limits). SoundNet (net_at l c.args.parent c.args.wire c.args.kind c.args.pin c.args.polarity)) (sym c.cell_from-c.ensures.1) sound)
+pub solve-requires-2 : goal.solve-requires-2
+solve-requires-2 c = let sound = sound_says (net_of c.args.net.now) (sym c.in_ok-judge.ensures) in (sound, omega (arith, sound.repeater_most))
 
 pub returns : goal.returns
-returns c = answered c.cell_from-c.ensures.1 (sym c.judge-verdict.ensures ∙ c.in_default.is) c.answer-2.ensures
+returns c = answered (net_of c.args.net.now) c.args.wires.now c.args.offsets.now (sym c.in_ok-judge.ensures) c.solve-2.ensures
