@@ -17,7 +17,7 @@ use Rattle.field.specs.declared.Value.{Value}
 use Rattle.field.specs.declared.Field.{Field}
 use Rattle.field.specs.declared.NoField.{NoField}
 use Rattle.field.specs.declared.NoField.TheVariants.{Cut, Refused}
-use Rattle.field.specs.Format.{number_at, length_of, tag_of, value_in, field_in, field_at, cut_at, due_in, due_at, read_place, due_place}
+use Rattle.field.specs.Format.{number_at, length_of, tag_of, value_in, field_in, field_at, cut_at, when_due, due_in, due_at, read_place, due_place}
 use Rattle.field.proofs.Numbers.{AreBytes}
 use Rattle.field.proofs.Reading.{read_place_lem}
 use Rattle.field.proofs.RoundTrip.{kept}
@@ -25,8 +25,7 @@ use Rattle.field.proofs.RoundTrip.{kept}
 -- what is found where the tag that stands there is the one that is due
 abbrev pub as_due : Result Field NoField → Result Field Refusal
 as_due (Ok f) = Ok f
-as_due (Err (Cut t place)) = Err (FileEnds place)
-as_due (Err (Refused r)) = Err r
+as_due (Err none) = Err (when_due none)
 
 module _ (at : ℕ) (l : List ℕ) (by : AreBytes l) where
   tagged : eqb (number_at 2 l 1) (length_of (get_or l 0 0)) ≡ true → tag_of (value_in (get_or l 0 0) l) ≡ get_or l 0 0

@@ -6,10 +6,10 @@ use mathlib.Core.Path.{◌≡◌, refl, sym, ap, ◌∙◌}
 use mathlib.Core.List.{List, [], ◌∷◌, ◌++◌, append-nil}
 use lib.ListN.{length, set, take, drop, length-drop, drop_of_length-le}
 use lib.Seq.{sets, take_all}
-use Rattle.std.specs.Prelude.{Ok, Err}
+use Rattle.std.specs.Prelude.{Ok, Result}
 use Rattle.rules.specs.declared.Refusal.{Refusal}
 use Rattle.field.specs.Format.{wrote, laid}
-use Rattle.field.proofs.Writing.{laid_whole, not_refused, wrote_length}
+use Rattle.field.proofs.Writing.{laid_whole, wrote_whole, wrote_length}
 
 sets_cons : (x : ℕ) (xs : List ℕ) (j : ℕ) (vs : List ℕ) → sets (x ∷ xs) (suc j) vs ≡ x ∷ sets xs j vs
 sets_cons x xs j [] = refl
@@ -49,8 +49,9 @@ module _ (out bs : List ℕ) (at : ℕ) (h : at + length bs ≤ length out) wher
   pub put_back : {part : List ℕ} → part ≡ laid bs (Part out at) → take at out ++ (part ++ drop (length out - at) (drop at out)) ≡ sets out at bs
   put_back e = ap (λ (p : List ℕ). take at out ++ (p ++ drop (length out - at) (drop at out))) (e ∙ laid_whole bs (Part out at) part_room) ∙ part_back out bs at (omega arith)
 
-  pub put_length : {n : ℕ} → Ok n ≡ wrote bs (Part out at) → n ≡ length bs
-  put_length = wrote_length bs (Part out at) part_room
+  module _ {w : Result ℕ Refusal} (e : w ≡ wrote bs (Part out at)) where
+    pub put_whole : w ≡ Ok (length bs)
+    put_whole = wrote_whole bs (Part out at) part_room e
 
-  pub put_never_refused : {r : Refusal} → Err r ≡ wrote bs (Part out at) → ⊥
-  put_never_refused = not_refused bs (Part out at) part_room
+    pub put_length : {n : ℕ} → w ≡ Ok n → n ≡ length bs
+    put_length = wrote_length bs (Part out at) part_room e

@@ -13,6 +13,7 @@ use Rattle.rules.specs.declared.Refusal.TheVariants.{FileEnds, NotDue}
 use Rattle.field.specs.declared.Value.{Value}
 use Rattle.field.specs.declared.NoField.TheVariants.{Cut, Refused}
 use Rattle.rules.specs.Choose.{pick}
+use Rattle.field.proofs.Numbers.{AreBytes}
 use Rattle.field.specs.Format.{number_at, length_of, value_in, field_in, field_at, read_place}
 
 pub short : (at : ℕ) (l : List ℕ) → length l < 3 → Err (Refused (FileEnds at)) ≡ field_in at l
@@ -31,6 +32,10 @@ module _ (at : ℕ) (l : List ℕ) {said body : ℕ} (room : 3 ≤ length l) (s 
   pub got : said ≡ body → 3 + body ≤ length l → {v : Value} → v ≡ value_in (get_or l 0 0) l → Ok (record { at = at; value = v }) ≡ field_in at l
   unfolding field_in
   got e h q = simp (le-ltb _ _ room, eq-eqb _ _ (sym s ∙ e ∙ b), le-ltb _ _ (rw b at h), q)
+
+-- a tag that is not in the table: no two bytes say the length that goes with it
+pub unknown : (at : ℕ) (l : List ℕ) → AreBytes l → 3 ≤ length l → length_of (get_or l 0 0) ≡ 65536 → Err (Refused (NotDue at)) ≡ field_in at l
+unknown at l by room none = not_due at l room refl refl (λ q. omega (arith, by 1, by 2, q, none))
 
 -- the part of a slice from a place to its end
 pub part_drop : (s : List ℕ) (at : ℕ) → take (length s - at) (drop at s) ≡ drop at s

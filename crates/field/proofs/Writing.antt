@@ -1,8 +1,8 @@
 -- What a writer answers and leaves, with too little room and with enough.
-use Rattle.std.specs.Prelude.{Ok, Err}
+use Rattle.std.specs.Prelude.{Ok, Err, Result}
 use Prim.Native.Nat.{ℕ, ◌<◌, ◌≤◌}
 use native.Mathlib.Omega.{arith}
-use mathlib.Core.Path.{◌≡◌, refl, sym, subst}
+use mathlib.Core.Path.{◌≡◌, refl, sym, subst, ◌∙◌}
 use mathlib.Core.Logic.{◌↔◌}
 use mathlib.Core.List.{List}
 use lib.ListN.{length}
@@ -42,13 +42,10 @@ module _ (bs out : List ℕ) where
 pub laid_whole : (bs out : List ℕ) → length bs ≤ length out → laid bs out ≡ sets out 0 bs
 laid_whole bs out h = rw (le-ltb (length out) (length bs) h)
 
--- and what is answered is its length, and no refusal
-module _ (bs out : List ℕ) (h : length bs ≤ length out) where
-  pub wrote_whole : wrote bs out ≡ Ok (length bs)
-  wrote_whole = rw (le-ltb (length out) (length bs) h)
+-- and what is answered is its length
+module _ (bs out : List ℕ) (h : length bs ≤ length out) {w : Result ℕ Refusal} (e : w ≡ wrote bs out) where
+  pub wrote_whole : w ≡ Ok (length bs)
+  wrote_whole = e ∙ rw (le-ltb (length out) (length bs) h)
 
-  pub not_refused : {r : Refusal} → Err r ≡ wrote bs out → ⊥
-  not_refused e = absurd (let z : ◌≡◌ {A = ℕ} 0 1 = (let q = wrote_whole in cc) in omega arith)
-
-  pub wrote_length : {n : ℕ} → Ok n ≡ wrote bs out → n ≡ length bs
-  wrote_length e = let q = wrote_whole in cc
+  pub wrote_length : {n : ℕ} → w ≡ Ok n → n ≡ length bs
+  wrote_length q = let z = wrote_whole in cc

@@ -112,6 +112,11 @@ field_at s at = field_in at (drop at s)
 abbrev pub cut_at : Bool → ℕ → Refusal
 cut_at due place = pick due (FileEnds place) (NotDue place)
 
+-- so where the tag that stands there is the one that is due
+abbrev pub when_due : NoField → Refusal
+when_due (Cut t place) = FileEnds place
+when_due (Refused r) = r
+
 -- what is found where one tag is due
 abbrev pub due_in : ℕ → Result Field NoField → Result Field Refusal
 due_in tag (Ok f) = pick (eqb (tag_of f.value) tag) (Ok f) (Err (NotDue f.at))

@@ -5,7 +5,7 @@ ghost use Rattle.std.specs.Prelude.{◌≡◌, [], ◌∷◌, ◌++◌, ◌+◌,
 ghost use Rattle.std.proofs.lemmas.List.Edits.{sets};
 ghost use Rattle.field.specs.Format.{bytes_in, bytes_of, wrote, laid};
 
-use field::Value;
+use field::{BRANCH_TAG, COUNT_TAG, END_TAG, ENTRY_TAG, LIMITS_TAG, SINK_TAG, Value};
 use rules::{Limits, Refusal};
 
 fn put_head(out: &mut [u8], tag: u8, size: u8)
@@ -43,7 +43,7 @@ fn put_limits(out: &mut [u8], l: Limits)
     requires { 12 ≤ length out.old }
     ensures { out.new ≡ sets out.old 0 (bytes_of (Value.Limits l)) }
 {
-    put_head(out, 1, 9);
+    put_head(out, LIMITS_TAG, 9);
     put4(out, 3, l.limit);
     put4(out, 7, l.pin);
     out[11] = l.repeater;
@@ -53,7 +53,7 @@ fn put_sink(out: &mut [u8], parent: u16, wire: u32, pin: u32, polarity: u8)
     requires { 14 ≤ length out.old }
     ensures { out.new ≡ sets out.old 0 (bytes_of (Value.Sink parent wire pin polarity)) }
 {
-    put_pair(out, 3, 11, parent, wire);
+    put_pair(out, SINK_TAG, 11, parent, wire);
     put4(out, 9, pin);
     out[13] = polarity;
 }
@@ -62,7 +62,7 @@ fn put_count(out: &mut [u8], n: u16)
     requires { 5 ≤ length out.old }
     ensures { out.new ≡ sets out.old 0 (bytes_of (Value.Count n)) }
 {
-    put_head(out, 17, 2);
+    put_head(out, COUNT_TAG, 2);
     put2(out, 3, n);
 }
 
@@ -72,7 +72,7 @@ fn put(out: &mut [u8], v: Value)
 {
     match v {
         Value::Limits(l) => put_limits(out, l),
-        Value::Branch { parent, wire } => put_pair(out, 2, 6, parent, wire),
+        Value::Branch { parent, wire } => put_pair(out, BRANCH_TAG, 6, parent, wire),
         Value::Sink {
             parent,
             wire,
@@ -80,8 +80,8 @@ fn put(out: &mut [u8], v: Value)
             polarity,
         } => put_sink(out, parent, wire, pin, polarity),
         Value::Count(n) => put_count(out, n),
-        Value::Entry(e) => put_pair(out, 18, 6, e.wire, e.offset),
-        Value::End => put_head(out, 127, 0),
+        Value::Entry(e) => put_pair(out, ENTRY_TAG, 6, e.wire, e.offset),
+        Value::End => put_head(out, END_TAG, 0),
     }
 }
 
@@ -91,13 +91,8 @@ pub fn size(v: Value) -> usize
 {
     match v {
         Value::Limits(_) => 12,
-        Value::Branch { parent: _, wire: _ } => 9,
-        Value::Sink {
-            parent: _,
-            wire: _,
-            pin: _,
-            polarity: _,
-        } => 14,
+        Value::Branch { .. } => 9,
+        Value::Sink { .. } => 14,
         Value::Count(_) => 5,
         Value::Entry(_) => 9,
         Value::End => 3,

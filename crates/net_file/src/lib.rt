@@ -8,14 +8,14 @@ ghost use Rattle.net_file.specs.NetFile.{kept_in, blank, first_places, laid_over
 use rules::{LentNet, Limits, Node};
 
 // A file that was read: its limits, and the places that its nodes and the source take.
-#[derive(Clone, Copy)]
+#[derive(Clone, Copy, Debug, PartialEq, Eq)]
 pub struct NetRead {
     pub limits: Limits,
     pub places: usize,
 }
 
 // A node that was taken from a file, with the place of the field after it.
-#[derive(Clone, Copy)]
+#[derive(Clone, Copy, Debug, PartialEq, Eq)]
 pub struct Taken {
     pub node: Node,
     pub next: usize,

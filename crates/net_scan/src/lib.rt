@@ -8,7 +8,7 @@ ghost use Rattle.field.specs.Format.{cut_at, due_at};
 ghost use Rattle.net_file.specs.NetFile.{front_value, front_of, node_due, taken_value, taken_at, net_from, net_of, kept_in, blank};
 ghost use Rattle.net_scan.specs.Kept.{JudgedFile};
 
-use field::{Field, NoField, Value};
+use field::{BRANCH_TAG, END_TAG, Field, LIMITS_TAG, NoField, SINK_TAG, Value};
 use net_file::{Columns, NetRead, Taken};
 use rules::{Limits, Node, Refusal};
 
@@ -39,13 +39,13 @@ fn front_of(f: Field) -> Result<Limits, Refusal>
 fn read_front(s: &[u8]) -> Result<Limits, Refusal>
     ensures { result ≡ front_of (due_at 1 s.now 0) }
 {
-    front_of(field_reader::read_due(s, 0, 1)?)
+    front_of(field_reader::read_due(s, 0, LIMITS_TAG)?)
 }
 
 fn node_due(tag: u8) -> bool
     ensures { result ≡ node_due tag }
 {
-    matches!(tag, 2 | 3 | 127)
+    matches!(tag, BRANCH_TAG | SINK_TAG | END_TAG)
 }
 
 fn taken_of(f: Field) -> Result<Option<Taken>, Refusal>

@@ -42,14 +42,12 @@ module _ (nodes : ℕ → Node) (places : ℕ) where
 
   -- ---- counting
   pub record Counting (size i : ℕ) : Type 0 where
-    pub some : 1 ≤ i
     pub few : size ≤ 14 * i + 1
     pub rest : 15 + length (Left 1) ≡ size + length (Left i)
 
   module _ {size i : ℕ} (c : Counting size i) where
     pub count_next : i < places → {m : ℕ} → m ≡ length (bytes_of (field_of (nodes i))) → Counting (size + m) (i + 1)
     count_next h e = record {
-      some = omega arith;
       few = omega (arith, c.few, node_size (nodes i));
       rest = omega (arith, c.rest, left_size i h);
     }
@@ -60,9 +58,7 @@ module _ (nodes : ℕ → Node) (places : ℕ) where
   -- ---- putting
   module _ (first : List ℕ) where
     pub record Putting (out : List ℕ) (at i : ℕ) : Type 0 where
-      pub some : 1 ≤ i
       pub long : length out ≡ length first
-      pub ends : at + length (Left i) ≡ 12 + length (Left 1)
       pub room : at + length (Left i) ≤ length out
       pub rest : sets first 12 (Left 1) ≡ sets out at (Left i)
 
@@ -75,9 +71,7 @@ module _ (nodes : ℕ → Node) (places : ℕ) where
           let n : m ≡ length (bytes_of (field_of (nodes i))) = hm ∙ ap (λ (x : Value). length (bytes_of x)) e in
           let k : length more ≡ length out = ap length q ∙ length-sets out at (bytes_of v) in
           record {
-            some = omega arith;
             long = k ∙ p.long;
-            ends = omega (arith, p.ends, left_size i h);
             room = omega (arith, p.room, left_size i h);
             rest = p.rest
                 ∙ ap (sets out at) (left_next i h)
@@ -90,9 +84,6 @@ module _ (nodes : ℕ → Node) (places : ℕ) where
 
       pub put_end : places ≤ i → {more : List ℕ} → more ≡ sets out at (bytes_of End) → more ≡ sets first 12 (Left 1)
       put_end h q = q ∙ sym (p.rest ∙ ap (sets out at) (left_end i h))
-
-      pub count_whole : places ≤ i → at + length (bytes_of End) ≡ 12 + length (Left 1)
-      count_whole h = omega (arith, p.ends, ap length (left_end i h))
 
 -- the limits before them
 pub put_all : (out : List ℕ) (l : Limits) (bs : List ℕ) {first more : List ℕ} → first ≡ sets out 0 (bytes_of (LimitsField l)) → more ≡ sets first 12 bs → more ≡ sets out 0 (bytes_of (LimitsField l) ++ bs)

@@ -1,7 +1,7 @@
 // A net's file, written into a lent buffer: RULES 6.7.
 #![tactic(auto)]
 
-ghost use Rattle.std.specs.Prelude.{Ok, ◌≡◌, ◌≤◌, length};
+ghost use Rattle.std.specs.Prelude.{◌≡◌, ◌≤◌, length};
 ghost use Rattle.std.proofs.lemmas.List.Edits.{sets};
 ghost use Rattle.rules.specs.Net.{net_of};
 ghost use Rattle.net.specs.Counted.{Level};
@@ -40,17 +40,16 @@ fn net_size(net: &LentNet) -> usize
     size
 }
 
-// Each field goes to the rest of the buffer, right behind its predecessor (RULES 3.14). Answers the bytes written.
-fn put_fields(net: &LentNet, out: &mut [u8]) -> Result<usize, Refusal>
+// Each field goes to the rest of the buffer, right behind its predecessor (RULES 3.14). There is room for each.
+fn put_fields(net: &LentNet, out: &mut [u8])
     requires { Level (net_of net.now) × (length (net_bytes (net_of net.now)) ≤ length out.old) }
-    ensures { (result ≡ Ok (length (net_bytes (net_of net.now)))) × (out.new ≡ sets out.old 0 (net_bytes (net_of net.now))) }
+    ensures { out.new ≡ sets out.old 0 (net_bytes (net_of net.now)) }
 {
-    let mut at = field_writer::write_field(out, Value::Limits(net.limits))?;
+    let mut at = field_writer::write_field(out, Value::Limits(net.limits)).unwrap();
     for i in 1..net.parent.len() {
-        at += field_writer::write_field(&mut out[at..], value_of(net.node(i)))?;
+        at += field_writer::write_field(&mut out[at..], value_of(net.node(i))).unwrap();
     }
-    at += field_writer::write_field(&mut out[at..], Value::End)?;
-    Ok(at)
+    field_writer::write_field(&mut out[at..], Value::End).unwrap();
 }
 
 // Writes a net's file. The columns are judged, and the room, in the order of RULES 5.9, before anything is written.
@@ -62,5 +61,6 @@ pub fn write_net(net: &LentNet, out: &mut [u8]) -> Result<usize, Refusal>
     if out.len() < size {
         return Err(Refusal::NoRoom(size as u64));
     }
-    put_fields(net, out)
+    put_fields(net, out);
+    Ok(size)
 }
