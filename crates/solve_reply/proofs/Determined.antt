@@ -2,7 +2,7 @@
 -- count: which least placement is told is all that is left open.
 use Prim.Native.Nat.{ℕ, ◌+◌, ◌*◌}
 use native.Mathlib.Omega.{arith}
-use mathlib.Core.Path.{◌≡◌, sym, ap, ◌∙◌}
+use mathlib.Core.Path.{◌≡◌, refl, sym, ap, ◌∙◌}
 use mathlib.Core.List.{List, ◌++◌}
 use lib.ListN.{length, take}
 use Rattle.rules.specs.Net.{Net}
@@ -14,7 +14,9 @@ use Rattle.placement_file.proofs.Listing.{length_entries}
 use Rattle.placement_writer.proofs.Writing.{length_bytes}
 use Rattle.answer.specs.Text.{least_line, answer_text}
 use Rattle.reply.specs.declared.Reply.{Reply}
-use Rattle.reply.specs.Said.{Conveys, Said}
+use Rattle.reply.specs.declared.Status.{Status}
+use Rattle.reply.specs.declared.Status.TheVariants.{Answered, Refused}
+use Rattle.reply.specs.Said.{byte_of, Conveys, Said}
 use Rattle.solve_reply.specs.Solves.{SolvesNet, none, full, placed, Solves, unread, net}
 
 pub data SameLeast (t t' : List ℕ) : Type 0 where
@@ -59,6 +61,12 @@ agree (unread r e f) (net n g p) = absurd (let z : ◌≡◌ {A = ℕ} 0 1 = cc 
 agree (net n g p) (unread r e f) = absurd (let z : ◌≡◌ {A = ℕ} 0 1 = cc in omega arith)
 agree {s} (net n e p) (net m f q) = agree_read s n m e f p q
 
+same_status : (a b : Status) → byte_of a ≡ byte_of b → a ≡ b
+same_status Answered Answered e = refl
+same_status Answered Refused e = absurd (omega arith)
+same_status Refused Answered e = absurd (omega arith)
+same_status Refused Refused e = refl
+
 -- and as they are handed over
 pub replies_agree : {s ts fs ts' fs' : List ℕ} {r r' : Reply} → Conveys (Solves s) ts fs r → Conveys (Solves s) ts' fs' r'
     → (r.status ≡ r'.status) × (r.file ≡ r'.file) × SameLeast (take r.text ts) (take r'.text ts')
@@ -66,7 +74,7 @@ replies_agree {s} {ts} {fs} {ts'} {fs'} {r} {r'} a b =
     let g = agree a.right b.right in
     let p = a.replies in
     let q = b.replies in (
-      p.status ∙ g.status ∙ sym q.status,
+      same_status r.status r'.status (p.status ∙ g.status ∙ sym q.status),
       p.file.counted ∙ ap length p.file.is ∙ g.file ∙ sym (ap length q.file.is) ∙ sym q.file.counted,
       rw (p.text.is, q.text.is) g.text,
     )
