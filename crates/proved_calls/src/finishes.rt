@@ -1,30 +1,10 @@
 // The call that finishes a half-buffered net.
-ghost use Rattle.std.specs.Prelude.{◌≡◌};
 ghost use Rattle.rules.specs.Net.{net_at};
 ghost use Rattle.proved_calls.specs.Answers.{limits_of};
-ghost use Rattle.finish.specs.Answer.{finished_number, finished_count};
 ghost use Rattle.proved_calls.specs.Finishes.{Finishes};
 
-use finish::Finished;
-use rules::Limits;
-
-fn finished_number(said: Finished) -> u32
-    ensures { result ≡ finished_number said }
-{
-    match said {
-        Finished::Added(_) => 0,
-        Finished::Refused(r) => net::number(r),
-    }
-}
-
-fn finished_count(said: Finished) -> u64
-    ensures { result ≡ finished_count said }
-{
-    match said {
-        Finished::Added(count) => count as u64,
-        Finished::Refused(r) => net::place(r),
-    }
-}
+use crate::{limits_of, tell};
+use rules::{LentNet, LentPlacement};
 
 #[unsafe(no_mangle)]
 pub extern "C" fn proved_finish(
@@ -44,23 +24,17 @@ pub extern "C" fn proved_finish(
 ) -> u32
     ensures { Finishes (net_at (limits_of limit cb repeater) parent.entry wire.entry kind.entry pin.entry polarity.entry) given.now given_offsets.now wires.old offsets.old wires.new offsets.new result place.new }
 {
-    let limits = Limits {
-        limit: limit,
-        pin: cb,
-        repeater: repeater,
-    };
-    let said = finish::finish(
-        limits,
+    let net = LentNet {
+        limits: limits_of(limit, cb, repeater),
         parent,
         wire,
         kind,
         pin,
         polarity,
-        given,
-        given_offsets,
-        wires,
-        offsets,
-    );
-    *place = finished_count(said);
-    finished_number(said)
+    };
+    let given = LentPlacement {
+        wires: given,
+        offsets: given_offsets,
+    };
+    tell(finish::finish(&net, &given, wires, offsets), place)
 }

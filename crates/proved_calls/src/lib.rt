@@ -10,26 +10,36 @@ mod solves;
 
 ghost use Rattle.std.specs.Prelude.{◌≡◌};
 ghost use Rattle.rules.specs.Net.{net_at};
-ghost use Rattle.rules.specs.Refusal.{judged_number, judged_place};
-ghost use Rattle.proved_calls.specs.Answers.{limits_of, Judges};
+ghost use Rattle.rules.specs.Refusal.{judged_number};
+ghost use Rattle.proved_calls.specs.Answers.{limits_of, count_or_place, Judges};
 
-use rules::{Judged, Limits};
+use rules::{LentNet, Limits, Refusal};
 
-fn judged_number(said: Judged) -> u32
-    ensures { result ≡ judged_number said }
+// The limits that C gives as three numbers.
+fn limits_of(limit: u32, pin: u32, repeater: u8) -> Limits
+    ensures { result ≡ limits_of limit pin repeater }
 {
-    match said {
-        Judged::Sound => 0,
-        Judged::Refused(r) => net::number(r),
+    Limits {
+        limit,
+        pin,
+        repeater,
     }
 }
 
-fn judged_place(said: Judged) -> u64
-    ensures { result ≡ judged_place said }
+// Leaves the count, or the refusal's place, and answers the refusal's number, or 0.
+fn tell(said: Result<usize, Refusal>, place: &mut u64) -> u32
+    ensures told { result ≡ judged_number said }
+    ensures left { place.new ≡ count_or_place said }
 {
     match said {
-        Judged::Sound => 0,
-        Judged::Refused(r) => net::place(r),
+        Ok(count) => {
+            *place = count as u64;
+            0
+        }
+        Err(refusal) => {
+            *place = refusal.place();
+            refusal.number()
+        }
     }
 }
 
@@ -47,12 +57,13 @@ pub extern "C" fn proved_judge(
 ) -> u32
     ensures { Judges (net_at (limits_of limit cb repeater) parent.entry wire.entry kind.entry pin.entry polarity.entry) result place.new }
 {
-    let limits = Limits {
-        limit: limit,
-        pin: cb,
-        repeater: repeater,
+    let net = LentNet {
+        limits: limits_of(limit, cb, repeater),
+        parent,
+        wire,
+        kind,
+        pin,
+        polarity,
     };
-    let said = net::judge(limits, parent, wire, kind, pin, polarity);
-    *place = judged_place(said);
-    judged_number(said)
+    tell(net::judge(&net).map(|()| 0), place)
 }
