@@ -116,10 +116,10 @@ fn next<F: Files, N: Read, O: Write>(
     names: &mut NameReader,
 ) -> Result<Option<Found>, Stopped> {
     let mut name = [0u8; NAME];
-    match names.next(listed, &mut name)? {
-        Some(size) => Ok(Some(record(files, output, &name[..size])?)),
-        None => Ok(None),
-    }
+    let Some(size) = names.next(listed, &mut name)? else {
+        return Ok(None);
+    };
+    record(files, output, &name[..size]).map(Some)
 }
 
 // The line of a terminal is written over, now and then. What cannot be shown there is not shown.
