@@ -9,4 +9,3 @@ pub mod Spans
 pub mod Parts
 pub mod Wire
 pub mod Determined
-pub mod Search

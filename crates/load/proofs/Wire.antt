@@ -11,7 +11,8 @@ use lib.ListN.{length, get_or}
 use lib.Seq.{slice, length-slice}
 use Rattle.rules.specs.Figures.{most_wire}
 use Rattle.rules.specs.Net.{Net, places, wire}
-use Rattle.rules.specs.Load.{entries, offsets_on, load_below, driven_on, driven}
+use Rattle.rules.specs.declared.Entry.{Entry}
+use Rattle.rules.specs.Load.{column_entry, entries, offsets_on, load_below, driven_on, driven}
 use Rattle.rules.specs.Legal.{start, Stands}
 use Rattle.load.specs.declared.Tables.{Tables}
 use Rattle.load.specs.Asks.{Placed, Weighable, AsksNode, Stacked}
@@ -85,6 +86,10 @@ module _ {n : Net} {vs os : List ℕ} (p : Placed n vs os) where
   driven_length =
       let e : 1 + (places n - 1) ≡ places n = omega (arith, p.sound.some) in
       omega (arith, rw e at (joined_length (driven_on n (offsets_on (entries vs os))) begin (places n - 1) 1 counts), begin_one, begin_last)
+
+  -- entry k, by its name in the code
+  pub entry_on : (k : ℕ) → k < length vs → {e : Entry} → e ≡ column_entry vs os k → Stands n e
+  entry_on k h q = rw q (stands k h)
 
   module _ (k : ℕ) (h : k < length vs) where
     pub wire_within : get_or vs k 0 < places n

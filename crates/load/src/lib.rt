@@ -51,12 +51,12 @@ const RUN: usize = 16;
 
 // Whether one of the nodes from `from` up to `to` is a child. The loop goes to its end, so that many are compared at once.
 fn any_child(parent: &[u16], node: u16, from: usize, to: usize) -> bool
-    requires { to ≤ length parent.now }
+    requires { (from ≤ to) × (to ≤ length parent.now) }
     ensures { result ≡ false → NoneFrom parent.now node from to }
 {
     let mut found = false;
-    for j in from..to {
-        found = (parent[j] == node) | found;
+    for p in &parent[from..to] {
+        found |= *p == node;
     }
     found
 }
@@ -155,8 +155,9 @@ fn cut_parts(
     ensures { Parts (net_of net.now) (offsets_at placement.now) own.new shut.new }
 {
     for k in 0..placement.wires.len() {
-        let on = placement.wires[k] as usize;
-        own[on] = net.wire[on] - placement.offsets[k] + net.limits.pin;
+        let entry = placement.entry(k);
+        let on = entry.wire as usize;
+        own[on] = net.wire[on] - entry.offset + net.limits.pin;
         shut[on] = true;
     }
 }
@@ -209,10 +210,7 @@ fn stacked(wires: &[u16], k: usize) -> bool
     requires { k < length wires.now }
     ensures { Stacked wires.now k result }
 {
-    if k == 0 {
-        return false;
-    }
-    wires[k - 1] == wires[k]
+    0 < k && wires[k - 1] == wires[k]
 }
 
 // What an entry drives: the lowest on its wire its offset and what lies below the node, each next its offset less the one before and C_b.
