@@ -17,19 +17,7 @@ fn entry_stands(wire: &[u32], before: Entry, entry: Entry) -> bool
     ensures { (n : Net) → HasWires n wire.now → result ≡ both (on_its_wire n entry) (not_lower before entry) }
 {
     let on = entry.wire as usize;
-    if on == 0 {
-        return false;
-    }
-    if wire.len() <= on {
-        return false;
-    }
-    if wire[on] < entry.offset {
-        return false;
-    }
-    if before.wire < entry.wire {
-        return true;
-    }
-    (before.wire == entry.wire) & (before.offset <= entry.offset)
+    0 < on && on < wire.len() && entry.offset <= wire[on] && before <= entry
 }
 
 // 7 and 10: the columns of a placement fit, and each entry stands on a wire and not before the one before it.
