@@ -4,7 +4,7 @@
 ghost use Rattle.std.specs.Prelude.{◌≡◌, ◌+◌, ◌*◌, ◌≤◌, ◌<◌, [], length, take};
 ghost use Rattle.answer.specs.Text.{Laid, end, digits, said, count_line, pair_line, entry_line, refused_line, refused_by, IsLine, Continues, entry_lines, place_line, place_lines, loads_text, answer_text, counted_text};
 
-use rules::{LentPlacement, Refusal};
+use rules::{Entry, LentPlacement, Refusal};
 
 // A line of text: the first `bytes` places of `text`, the last of them the line's end. The other places hold 0.
 #[derive(Drop)]
@@ -106,22 +106,27 @@ pub fn pair_line(first: &[u8], n: u64, second: &[u8], m: u64) -> Line
 
 // `wire W offset O drives L`: an entry and its load.
 #[tactic(auto, unfolding(crate::specs::Text::entry_line), using(crate::proofs::Digits::said_in_16, crate::proofs::Digits::said_in_32, crate::proofs::Digits::said_in_64))]
-pub fn entry_line(wire: u16, offset: u32, load: u64) -> Line
-    ensures { IsLine (entry_line wire offset load) result }
+pub fn entry_line(entry: Entry, load: u64) -> Line
+    ensures { IsLine (entry_line entry.wire entry.offset load) result }
 {
     let mut line = Line::empty();
-    line.say(b"wire ", u64::from(wire));
-    line.say(b" offset ", u64::from(offset));
+    line.say(b"wire ", u64::from(entry.wire));
+    line.say(b" offset ", u64::from(entry.offset));
     line.say(b" drives ", load);
     line.end();
     line
 }
 
 // `wire W offset O`: an entry alone.
-fn place_line(wire: u16, offset: u32) -> Line
-    ensures { IsLine (place_line wire offset) result }
+fn place_line(entry: Entry) -> Line
+    ensures { IsLine (place_line entry.wire entry.offset) result }
 {
-    pair_line(b"wire ", u64::from(wire), b" offset ", u64::from(offset))
+    pair_line(
+        b"wire ",
+        u64::from(entry.wire),
+        b" offset ",
+        u64::from(entry.offset),
+    )
 }
 
 // `refused N place P`.
@@ -155,8 +160,7 @@ fn put_entries(out: &mut [u8], at: usize, placement: &LentPlacement, loads: &[u6
 {
     let mut next = at;
     for k in 0..placement.wires.len() {
-        let entry = placement.entry(k);
-        next = put_line(out, next, entry_line(entry.wire, entry.offset, loads[k]));
+        next = put_line(out, next, entry_line(placement.entry(k), loads[k]));
     }
     next
 }
@@ -171,8 +175,7 @@ fn put_places(out: &mut [u8], at: usize, placement: &LentPlacement) -> usize
 {
     let mut next = at;
     for k in 0..placement.wires.len() {
-        let entry = placement.entry(k);
-        next = put_line(out, next, place_line(entry.wire, entry.offset));
+        next = put_line(out, next, place_line(placement.entry(k)));
     }
     next
 }
