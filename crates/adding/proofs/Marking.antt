@@ -1,11 +1,11 @@
 -- What the way up says of the given entries: right marks are a least completion of them, and a node that cannot be brought within the limit says that there is none.
+use Rattle.std.specs.Prelude.{Option}
 use Prim.Native.Nat.{ℕ, suc, ◌-◌, ◌≤◌}
 use mathlib.Core.Path.{◌≡◌, sym, subst, ap, ◌∙◌}
 use mathlib.Core.List.{List, [], ◌∷◌}
-use lib.ListN.{length, get_or}
+use lib.ListN.{length}
 use native.Mathlib.Omega.{arith}
 use Rattle.rules.specs.declared.Entry.{Entry}
-use Rattle.rules.specs.Figures.{most_places}
 use Rattle.rules.specs.Net.{Net, places, wire}
 use Rattle.rules.specs.Load.{entries, offsets_on}
 use Rattle.rules.specs.Complete.{Completes, LeastAdded, NoneCompletes}
@@ -35,7 +35,7 @@ lead_low w (o ∷ os) lead e r = omega (arith, low o os r.1)
     low at (g ∷ gs) h = low g gs h.1
 
 -- of a sound net of buffers, and given entries that stand on it
-module _ (c : code.Cell) {n : Net} {ws os leads : List ℕ} (limits : limits_of c ≡ n.limits) (sound : SoundNet n) (buffers : n.limits.repeater ≡ 0) (stood : Stood n ws os) (led : Leads ws os leads) where
+module _ (c : code.Cell) {n : Net} {ws os : List ℕ} {leads : List (Option ℕ)} (limits : limits_of c ≡ n.limits) (sound : SoundNet n) (buffers : n.limits.repeater ≡ 0) (stood : Stood n ws os) (led : Leads ws os leads) where
   abbrev g : List Entry
   g = entries ws os
 
@@ -48,8 +48,8 @@ module _ (c : code.Cell) {n : Net} {ws os leads : List ℕ} (limits : limits_of 
   same_leads : leads_in leads ≡ (λ i. lead_of (G i))
   same_leads = λ ι i. led.is i ι
 
-  pub led_low : length leads ≡ most_places → Led n leads
-  led_low l = record { long = omega (arith, sound.few); low = λ i. lead_low (wire n i) (G i) (get_or leads i 0) (led.is i) (in_order_rises n g stood.order i) }
+  pub led_low : Led n leads
+  led_low = record { low = λ i. lead_low (wire n i) (G i) (leads_in leads i) (led.is i) (in_order_rises n g stood.order i) }
 
   -- 8
   pub lost_none : Lost (model_of c) n (leads_in leads) → NoneCompletes n (entries ws os)

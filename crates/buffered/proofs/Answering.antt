@@ -3,7 +3,7 @@ use Rattle.std.specs.Prelude.{Ok, Err}
 use Prim.Native.Nat.{ℕ, ◌≤◌, ◌<◌}
 use mathlib.Core.Path.{◌≡◌, refl, ap}
 use mathlib.Core.List.{List, []}
-use lib.ListN.{length, replicate}
+use lib.ListN.{length}
 use native.Mathlib.Omega.{arith}
 use Rattle.rules.specs.declared.Entry.{Entry}
 use Rattle.rules.specs.declared.Refusal.TheVariants.{NoLegalPlacement, NoRoom}
@@ -11,7 +11,6 @@ use Rattle.rules.specs.Net.{Net}
 use Rattle.rules.specs.Load.{entries, offsets_on}
 use Rattle.rules.specs.Legal.{Legal, Least, NoneLegal}
 use Rattle.columns.specs.Columns.{room_in, Holds}
-use Rattle.buffers.proofs.Clearing.{none_in}
 use Rattle.adding.specs.Given.{Stood, Leads}
 use Rattle.solution.specs.Answer.{Outcome, none, full, placed}
 
@@ -19,9 +18,9 @@ pub none_given : (n : Net) → Stood n [] []
 unfolding entries
 none_given n = record { same = refl; few = omega arith; order = tt }
 
-pub none_leads : (N : ℕ) → Leads [] [] (replicate N 0)
+pub none_leads : Leads [] [] []
 unfolding entries offsets_on
-none_leads N = record { is = none_in N }
+none_leads = record { is = λ i. refl }
 
 module _ {n : Net} (ws os : List ℕ) where
   pub eight : NoneLegal n → Outcome n ws os ws os (Err NoLegalPlacement)

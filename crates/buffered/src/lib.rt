@@ -11,7 +11,7 @@ ghost use Rattle.adding.specs.Walks.{all_added, Ready};
 ghost use Rattle.solution.specs.Answer.{Outcome};
 
 use adding::Wire;
-use buffers::{PLACES, Tables};
+use buffers::Tables;
 use rules::{LentNet, Refusal};
 use states::Cell;
 
@@ -69,6 +69,6 @@ pub fn solve(net: &LentNet, wires: &mut [u16], offsets: &mut [u32]) -> Result<us
 {
     let cell = Cell::of(net.limits);
     let mut tables = Tables::blank();
-    tables.ascend(cell, net, &[0; PLACES])?;
+    tables.ascend(cell, net, &[])?;
     place(cell, net.wire, &tables, wires, offsets)
 }

@@ -10,14 +10,6 @@ use Rattle.relief.proofs.Pieces.{T-ceil}
 use Rattle.relief.proofs.WireLower.{T-whole}
 
 module _ (τ : Cell) (eq : τ.cu ≡ τ.cb + τ.D) (pos : 1 ≤ τ.D) where
-  pub piece_none : (w lead h : ℕ) → lead ≡ 0 → w + h ≡ piece τ w lead h
-  piece_none w zero h e = refl
-  piece_none w (suc o) h e = absurd (omega arith)
-
-  pub piece_led : (w lead h : ℕ) → (lead ≡ 0 → ⊥) → (w - (lead - 1)) + τ.cb ≡ piece τ w lead h
-  piece_led w zero h ne = absurd (ne refl)
-  piece_led w (suc o) h ne = let e : suc o - 1 ≡ o = omega arith in rw e
-
   fits_by : (v r : ℕ) → ceil τ v ≡ r → v ≤ τ.cu → v ≡ T τ v r
   fits_by v zero e h = refl
   fits_by v (suc r) e h = absurd (omega (arith, ceil_least τ eq pos v 0 (omega arith)))

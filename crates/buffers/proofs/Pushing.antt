@@ -1,4 +1,5 @@
 -- A wire is joined to its parent: a chain that is one longer, a load with what the wire hands up.
+use Rattle.std.specs.Prelude.{Option}
 use Prim.Native.Nat.{ℕ, suc, ◌+◌, ◌*◌, ◌≤◌, ◌<◌}
 use mathlib.Core.Path.{◌≡◌, refl, sym, subst, ap, ◌∙◌}
 use mathlib.Core.List.{List, [], ◌∷◌}
@@ -150,28 +151,26 @@ module _ (τ : Cell) (eq : τ.cu ≡ τ.cb + τ.D) (pos : 1 ≤ τ.D) (small : �
     }
 
 -- ---- what a step on a wire reads and writes
-pub record Reads (τ : Cell) (n : Net) (leads : List ℕ) (t : Tables) (i : ℕ) : Type 0 where
+pub record Reads (τ : Cell) (n : Net) (leads : List (Option ℕ)) (t : Tables) (i : ℕ) : Type 0 where
   pub in_up : i < length n.parents
   pub in_wires : i < length n.wires
-  pub in_leads : i < length leads
   pub in_below : i < length t.below
   pub in_tops : i < length t.tops
   pub in_links : i < length t.links
   pub few : i < most_places
   pub lower : parent n i < i
   pub size : wire n i ≤ most_wire
-  pub lead : get_or leads i 0 ≤ suc (wire n i)
+  pub lead : leads_in leads i ≤ suc (wire n i)
   pub load : get_or t.below i 0 ≤ τ.cu
   pub sum : get_or t.below (parent n i) 0 ≤ 1024000000
 
-module _ {τ : Cell} {n : Net} {leads : List ℕ} {t : Tables} {i : ℕ} (eq : τ.cu ≡ τ.cb + τ.D) (pos : 1 ≤ τ.D) (small : τ.cu ≤ most_limit) (a : AtWire τ n leads t i) where
+module _ {τ : Cell} {n : Net} {leads : List (Option ℕ)} {t : Tables} {i : ℕ} (eq : τ.cu ≡ τ.cb + τ.D) (pos : 1 ≤ τ.D) (small : τ.cu ≤ most_limit) (a : AtWire τ n leads t i) where
   pub reads : Reads τ n leads t i
   reads =
       let l = a.going.long in
       record {
         in_up = a.within;
         in_wires = omega (arith, a.within, a.sound.wires_long);
-        in_leads = omega (arith, a.within, a.led.long);
         in_below = omega (arith, a.within, l.enough, l.below);
         in_tops = omega (arith, a.within, l.enough);
         in_links = omega (arith, a.within, l.enough, l.links);
@@ -184,6 +183,6 @@ module _ {τ : Cell} {n : Net} {leads : List ℕ} {t : Tables} {i : ℕ} (eq : �
       }
 
   -- b is what the wire hands up
-  pub push : (b : ℕ) → b ≡ bare τ (wire n i) (get_or leads i 0) (get_or t.below i 0)
+  pub push : (b : ℕ) → b ≡ bare τ (wire n i) (leads_in leads i) (get_or t.below i 0)
       → Going τ n (leads_in leads) (tables (set t.below (parent n i) (get_or t.below (parent n i) 0 + b)) (set t.tops i b) t.on (set (set t.links i (get_or t.links (parent n i) 0)) (parent n i) i)) i i
   push b e = pushed τ eq pos small a.sound (leads_in leads) t i a.above a.within a.going b e

@@ -1,5 +1,5 @@
 -- The tables on the way up: which wires are joined to their parents, and which nodes have their load.
-use Rattle.std.specs.Prelude.{ℕ, suc, ◌-◌, ◌≤◌, ◌<◌, ◌≡◌, List, Ok, Err, length, get_or}
+use Rattle.std.specs.Prelude.{ℕ, suc, ◌-◌, ◌≤◌, ◌<◌, ◌≡◌, List, Option, Some, None, Ok, Err, length, get_or}
 use Rattle.rules.specs.declared.Refusal.TheVariants.{NoLegalPlacement}
 use Rattle.rules.specs.Figures.{most_places}
 use Rattle.rules.specs.Judged.{Judged}
@@ -12,13 +12,17 @@ use Rattle.relief.specs.Marks.{Marks, out, Marked, Stuck}
 use Rattle.buffers.specs.declared.Tables.{Tables}
 use Rattle.buffers.specs.Chain.{wires_of, sum_l, Chain}
 
--- the leads of the wires: each at most one more than the wire's size
-pub record Led (n : Net) (leads : List ℕ) : Type 0 where
-  pub long : places n ≤ length leads
-  pub low : (i : ℕ) → get_or leads i 0 ≤ suc (wire n i)
+-- the lead of a wire, by the topmost of its given offsets
+abbrev pub lead_from : Option ℕ → ℕ
+lead_from None = 0
+lead_from (Some o) = suc o
 
-abbrev pub leads_in : List ℕ → ℕ → ℕ
-leads_in leads i = get_or leads i 0
+abbrev pub leads_in : List (Option ℕ) → ℕ → ℕ
+leads_in leads i = lead_from (get_or leads i None)
+
+-- the leads of the wires: each at most one more than the wire's size
+pub record Led (n : Net) (leads : List (Option ℕ)) : Type 0 where
+  pub low : (i : ℕ) → leads_in leads i ≤ suc (wire n i)
 
 abbrev pub tables : List ℕ → List ℕ → List ℕ → List ℕ → Tables
 tables below tops on links = record { below = below; tops = tops; on = on; links = links }
@@ -67,7 +71,7 @@ pub record AtNode (τ : Cell) (n : Net) (L : ℕ → ℕ) (t : Tables) (i : ℕ)
   pub within : i < places n
   pub going : Going τ n L t (suc i) (suc i)
 
-pub record AtWire (τ : Cell) (n : Net) (leads : List ℕ) (t : Tables) (i : ℕ) : Type 0 where
+pub record AtWire (τ : Cell) (n : Net) (leads : List (Option ℕ)) (t : Tables) (i : ℕ) : Type 0 where
   pub sound : SoundNet n
   pub led : Led n leads
   pub above : 1 ≤ i

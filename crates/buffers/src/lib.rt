@@ -2,7 +2,7 @@
 // apart as they may be.
 #![tactic(auto)]
 
-ghost use Rattle.std.specs.Prelude.{◌≡◌, List, ℕ, suc, ◌+◌, ◌-◌, ◌*◌, ◌<◌, ◌≤◌, length, replicate};
+ghost use Rattle.std.specs.Prelude.{◌≡◌, List, ℕ, None, suc, ◌+◌, ◌-◌, ◌*◌, ◌<◌, ◌≤◌, length, get_or, replicate};
 ghost use Rattle.rules.specs.Figures.{most_wire, most_places};
 ghost use Rattle.rules.specs.Net.{net_of, places};
 ghost use Rattle.rules.specs.Sound.{SoundNet};
@@ -11,7 +11,7 @@ ghost use Rattle.relief.specs.Pieces;
 ghost use Rattle.relief.specs.Pieces.{most_piece, bare};
 ghost use Rattle.buffers.specs.Chain.{Chain, Chained, Heaviest};
 ghost use Rattle.buffers.specs.Easing.{Loaded, Eased};
-ghost use Rattle.buffers.specs.Going.{leads_in, Led, tables, Going, Tried, AtNode, AtWire};
+ghost use Rattle.buffers.specs.Going.{lead_from, leads_in, Led, tables, Going, Tried, AtNode, AtWire};
 
 use rules::{LentNet, Refusal};
 use states::Cell;
@@ -29,21 +29,28 @@ pub struct Tables {
     pub links: [u16; PLACES],
 }
 
-// The uppermost piece of a wire of size w over the load h, by the wire's lead: its size and what hangs below it. To what is above it a given buffer is a pin.
-fn piece(c: Cell, w: u64, lead: u64, h: u64) -> u64
-    requires { (w ≤ most_wire) × (h ≤ c.limit) × (lead ≤ suc w) }
-    ensures { (result ≡ Pieces.piece (model_of c) w lead h) × (result ≤ most_piece) }
+// The lead of wire i, the offset of its topmost given buffer. There may be none past some wire.
+fn lead_at(leads: &[Option<u32>], i: usize) -> Option<u32>
+    ensures { result ≡ get_or leads.now i None }
 {
-    if lead == 0 {
-        return w + h;
+    if i < leads.len() { leads[i] } else { None }
+}
+
+// The uppermost piece of a wire of size w over the load h, by the wire's lead: its size and what hangs below it. To what is above it a given buffer is a pin.
+fn piece(c: Cell, w: u64, lead: Option<u32>, h: u64) -> u64
+    requires { (w ≤ most_wire) × (h ≤ c.limit) × (lead_from lead ≤ suc w) }
+    ensures { (result ≡ Pieces.piece (model_of c) w (lead_from lead) h) × (result ≤ most_piece) }
+{
+    match lead {
+        None => w + h,
+        Some(o) => w - u64::from(o) + c.pin,
     }
-    w - (lead - 1) + c.pin
 }
 
 // What the wire hands up with as few buffers as serve.
-fn hand(c: Cell, w: u64, lead: u64, h: u64) -> u64
-    requires { (w ≤ most_wire) × (h ≤ c.limit) × (lead ≤ suc w) }
-    ensures { (result ≡ bare (model_of c) w lead h) × (result ≤ c.limit) }
+fn hand(c: Cell, w: u64, lead: Option<u32>, h: u64) -> u64
+    requires { (w ≤ most_wire) × (h ≤ c.limit) × (lead_from lead ≤ suc w) }
+    ensures { (result ≡ bare (model_of c) w (lead_from lead) h) × (result ≤ c.limit) }
 {
     let v = piece(c, w, lead, h);
     if v <= c.limit {
@@ -130,15 +137,14 @@ impl Tables {
     }
 
     // Wire i is joined to its parent.
-    fn push_wire(&mut self, c: Cell, net: &LentNet, leads: &[u32], i: usize)
+    fn push_wire(&mut self, c: Cell, net: &LentNet, leads: &[Option<u32>], i: usize)
         requires { AtWire (model_of c) (net_of net.now) leads.now self.old i }
         ensures { Going (model_of c) (net_of net.now) (leads_in leads.now) self.new i i }
     {
         let p = net.parent[i] as usize;
         let w = u64::from(net.wire[i]);
-        let lead = u64::from(leads[i]);
         let h = u64::from(self.below[i]);
-        let top = hand(c, w, lead, h) as u32;
+        let top = hand(c, w, lead_at(leads, i), h) as u32;
         self.below[p] += top;
         self.tops[i] = top;
         self.links[i] = self.links[p];
@@ -146,7 +152,7 @@ impl Tables {
     }
 
     // From the last node to the source: 8 where a node cannot be brought within the limit.
-    pub fn ascend(&mut self, c: Cell, net: &LentNet, leads: &[u32]) -> Result<(), Refusal>
+    pub fn ascend(&mut self, c: Cell, net: &LentNet, leads: &[Option<u32>]) -> Result<(), Refusal>
         requires sound { SoundNet (net_of net.now) × Led (net_of net.now) leads.now }
         requires blank { Going (model_of c) (net_of net.now) (leads_in leads.now) self.old (places (net_of net.now)) (places (net_of net.now)) }
         ensures { Tried (model_of c) (net_of net.now) (leads_in leads.now) self.new 1 0 result }

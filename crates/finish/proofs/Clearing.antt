@@ -1,4 +1,5 @@
 -- What the given columns hold is within a cleared table of leads.
+use Rattle.std.specs.Prelude.{Option, None}
 use Prim.Native.Nat.{ℕ, zero, suc, ◌<◌}
 use mathlib.Core.Path.{◌≡◌}
 use mathlib.Core.List.{List, [], ◌∷◌}
@@ -21,12 +22,11 @@ stands_at n d (v ∷ ws) [] e o s h = absurd (omega arith)
 stands_at n d (v ∷ ws) (x ∷ os) zero o s h = o.1
 stands_at n d (v ∷ ws) (x ∷ os) (suc e) o s h = stands_at n (record { wire = v; offset = x }) ws os e o.2 (omega arith) (omega arith)
 
-pub fresh : (n : Net) {ws os : List ℕ} → SoundNet n → Stood n ws os → Fresh ws os (replicate most_places 0)
+pub fresh : (n : Net) {ws os : List ℕ} → SoundNet n → Stood n ws os → Fresh ws os (replicate most_places None)
 fresh n {ws} {os} sound s = record {
   same = s.same;
   few = s.few;
-  long = omega (arith, length-replicate {A = ℕ} most_places 0);
-  wires = λ e h. let x = stands_at n start ws os e s.order s.same h in omega (arith, x.within, sound.few, length-replicate {A = ℕ} most_places 0);
-  offsets = λ e h. let x = stands_at n start ws os e s.order s.same h in omega (arith, x.offset, sound.wire_most (get_or ws e 0));
-  clear = none_in most_places;
+  long = omega (arith, length-replicate {A = Option ℕ} most_places None);
+  wires = λ e h. let x = stands_at n start ws os e s.order s.same h in omega (arith, x.within, sound.few, length-replicate {A = Option ℕ} most_places None);
+  clear = none_in None most_places;
 }

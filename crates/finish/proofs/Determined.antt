@@ -13,9 +13,9 @@ use Rattle.rules.specs.Judged.{Judged}
 use Rattle.rules.specs.Net.{Net}
 use Rattle.rules.specs.Load.{entries}
 use Rattle.rules.proofs.Completing.{one_least_added}
-use Rattle.columns.specs.Columns.{room_in}
+use Rattle.columns.specs.Columns.{room_in, written}
 use Rattle.columns.proofs.Alike.{Alike, alike_kept, alike_holds}
-use Rattle.finish.specs.Answer.{half_judged, Outcome, none, full, finished, Answered, written}
+use Rattle.finish.specs.Answer.{half_judged, Outcome, none, full, finished, Answered}
 
 module _ {n : Net} {g : List Entry} {ws os ws₁ os₁ ws₂ os₂ : List ℕ} {r r' : Result ℕ Refusal} where
   both : Outcome n g ws os ws₁ os₁ r → Outcome n g ws os ws₂ os₂ r' → Alike r r' (written r) ws₁ os₁ ws₂ os₂

@@ -1,16 +1,15 @@
 -- What the call answers that finishes a half-buffered net (RULES 8).
-use Rattle.std.specs.Prelude.{Ok, Err, Result}
-use Rattle.rules.specs.declared.Refusal.{Refusal}
-use Rattle.std.specs.Prelude.{ℕ, ◌≤◌, ◌<◌, ◌≡◌, List, length, eqb}
+use Rattle.std.specs.Prelude.{ℕ, ◌≤◌, ◌<◌, ◌≡◌, List, Result, Ok, Err, length, eqb}
 use Rattle.rules.specs.declared.Entry.{Entry}
+use Rattle.rules.specs.declared.Refusal.{Refusal}
 use Rattle.rules.specs.declared.Refusal.TheVariants.{OutOfRange, NoLegalPlacement, NoRoom}
 use Rattle.rules.specs.Judged.{Judged}
 use Rattle.rules.specs.Net.{Net}
-use Rattle.rules.specs.Refusal.{number_of, place_of}
+use Rattle.rules.specs.Refusal.{judged_number}
 use Rattle.rules.specs.Complete.{Completes, LeastAdded, NoneCompletes}
 use Rattle.rules.specs.Judge.{unless, then_judge, judged}
 use Rattle.standing.specs.Stands.{stood}
-use Rattle.columns.specs.Columns.{room_in, Kept, Holds}
+use Rattle.columns.specs.Columns.{room_in, Kept, Holds, count_of}
 
 -- what is refused before anything is searched: the net, then its type where that is not 0, then the given entries' columns, then an entry that does not stand
 unfoldable pub half_judged : Net → List ℕ → List ℕ → Judged
@@ -30,15 +29,8 @@ Answered (Err x) n g ws os ws' os' r = (r ≡ Err x) × Kept ws os ws' os'
 
 -- as a number: 0 is success (RULES 4.1)
 abbrev pub finished_number : Result ℕ Refusal → ℕ
-finished_number (Ok k) = 0
-finished_number (Err r) = number_of r
+finished_number = judged_number
 
 -- how many are added, or a refusal's place
 abbrev pub finished_count : Result ℕ Refusal → ℕ
-finished_count (Ok k) = k
-finished_count (Err r) = place_of r
-
--- how many places an answer has written
-abbrev pub written : Result ℕ Refusal → ℕ
-written (Ok k) = k
-written (Err r) = 0
+finished_count = count_of

@@ -15,14 +15,14 @@ use buffers::{PLACES, Tables};
 use rules::{LentNet, LentPlacement, Refusal};
 use states::Cell;
 
-// Each wire's lead: one more than the offset of its topmost given entry, which comes last.
-fn mark_leads(given: &LentPlacement, leads: &mut [u32; PLACES])
+// Each wire's lead: the offset of its topmost given entry, which comes last.
+fn mark_leads(given: &LentPlacement, leads: &mut [Option<u32>; PLACES])
     requires { Fresh given.now.wires.now given.now.offsets.now leads.old }
     ensures { Leads given.now.wires.now given.now.offsets.now leads.new }
 {
     for e in 0..given.wires.len() {
         let entry = given.entry(e);
-        leads[entry.wire as usize] = entry.offset + 1;
+        leads[entry.wire as usize] = Some(entry.offset);
     }
 }
 
@@ -50,7 +50,7 @@ fn finish_sound(
     ensures { Outcome (net_of net.now) (entries given.now.wires.now given.now.offsets.now) wires.old offs.old wires.new offs.new result }
 {
     let cell = Cell::of(net.limits);
-    let mut leads = [0; PLACES];
+    let mut leads = [None; PLACES];
     let mut tables = Tables::blank();
     mark_leads(given, &mut leads);
     tables.ascend(cell, net, &leads)?;

@@ -12,7 +12,8 @@ use Rattle.rules.specs.Net.{Net}
 use Rattle.rules.specs.Judge.{judged}
 use Rattle.frontier.proofs.LeastCount.{one_least}
 use Rattle.columns.proofs.Alike.{Alike, alike_kept, alike_holds}
-use Rattle.solution.specs.Answer.{Outcome, none, full, placed, Answered, written}
+use Rattle.columns.specs.Columns.{written}
+use Rattle.solution.specs.Answer.{Outcome, none, full, placed, Answered}
 
 module _ {n : Net} {ws os ws₁ os₁ ws₂ os₂ : List ℕ} {r r' : Result ℕ Refusal} where
   both : Outcome n ws os ws₁ os₁ r → Outcome n ws os ws₂ os₂ r' → Alike r r' (written r) ws₁ os₁ ws₂ os₂

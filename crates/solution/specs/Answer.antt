@@ -5,9 +5,9 @@ use Rattle.rules.specs.declared.Refusal.{Refusal}
 use Rattle.rules.specs.declared.Refusal.TheVariants.{NoLegalPlacement, NoRoom}
 use Rattle.rules.specs.Judged.{Judged}
 use Rattle.rules.specs.Net.{Net}
-use Rattle.rules.specs.Refusal.{number_of, place_of}
+use Rattle.rules.specs.Refusal.{judged_number}
 use Rattle.rules.specs.Legal.{Legal, Least, NoneLegal}
-use Rattle.columns.specs.Columns.{room_in, Kept, Holds}
+use Rattle.columns.specs.Columns.{room_in, Kept, Holds, count_of}
 
 -- of a net that is sound: 8 where no placement is legal, 9 with the least count where there is no room for it, else a legal placement with the least count
 pub data Outcome (n : Net) (ws os ws' os' : List ℕ) (r : Result ℕ Refusal) : Type 0 where
@@ -22,15 +22,8 @@ Answered (Err x) n ws os ws' os' r = (r ≡ Err x) × Kept ws os ws' os'
 
 -- as a number: 0 is success (RULES 4.1)
 abbrev pub solved_number : Result ℕ Refusal → ℕ
-solved_number (Ok k) = 0
-solved_number (Err r) = number_of r
+solved_number = judged_number
 
 -- the count, or a refusal's place
 abbrev pub solved_count : Result ℕ Refusal → ℕ
-solved_count (Ok k) = k
-solved_count (Err r) = place_of r
-
--- how many places an answer has written
-abbrev pub written : Result ℕ Refusal → ℕ
-written (Ok k) = k
-written (Err x) = 0
+solved_count = count_of

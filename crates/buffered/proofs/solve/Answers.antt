@@ -1,5 +1,5 @@
 -- The tables begin cleared; what the way up says of every node decides the answer.
-use Rattle.std.proofs.Common.{refl, replicate, arith}
+use Rattle.std.proofs.Common.{refl, [], arith}
 use Rattle.std.proofs.lemmas.Result.{err_from_is_err_and}
 use Rattle.rules.specs.Figures.{most_places}
 use Rattle.rules.specs.Net.{net_of}
@@ -14,11 +14,11 @@ use Rattle.buffered.proofs.Answering.{none_given, none_leads, eight}
 use Rattle.buffered.proofs.solve.Goals as goal
 
 pub ascend-requires-clause-sound : goal.ascend-requires-clause-sound
-ascend-requires-clause-sound c = let (sound, buffers) = c.requires in (sound, led_low c.of-cell.result c.of-cell.ensures.1 sound buffers (none_given _) (none_leads most_places) refl)
+ascend-requires-clause-sound c = let (sound, buffers) = c.requires in (sound, led_low c.of-cell.result c.of-cell.ensures.1 sound buffers (none_given _) none_leads)
 
 pub ascend-requires-clause-blank : goal.ascend-requires-clause-blank
 ascend-requires-clause-blank c =
-    rw c.blank-tables.ensures (going_none most_places (model_of c.of-cell.result) (net_of c.args.net.now) (leads_in (replicate most_places 0)) c.requires.0.few (omega arith))
+    rw c.blank-tables.ensures (going_none most_places (model_of c.of-cell.result) (net_of c.args.net.now) (leads_in []) c.requires.0.few (omega arith))
 
 pub returns-in_err-ascend : goal.returns-in_err-ascend
 unfolding entries
@@ -26,12 +26,12 @@ returns-in_err-ascend c =
     let (sound, buffers) = c.requires in
     let p = err_from_is_err_and c.from_residual.result c.from_residual.ensures.1 in
     let (lost, is) = tried_err c.in_err-ascend.ensures refl in
-    rw (p.1, p.2, is) (eight c.args.wires.now c.args.offsets.now (none_alone.0 (lost_none c.of-cell.result c.of-cell.ensures.1 sound buffers (none_given _) (none_leads most_places) lost)))
+    rw (p.1, p.2, is) (eight c.args.wires.now c.args.offsets.now (none_alone.0 (lost_none c.of-cell.result c.of-cell.ensures.1 sound buffers (none_given _) none_leads lost)))
 
 pub place-requires : goal.place-requires
 place-requires c =
     let (sound, buffers) = c.requires in
-    ready c.of-cell.result c.of-cell.ensures.1 sound buffers (none_given _) (none_leads most_places) _ (tried_ok c.in_ok-ascend.ensures refl)
+    ready c.of-cell.result c.of-cell.ensures.1 sound buffers (none_given _) none_leads _ (tried_ok c.in_ok-ascend.ensures refl)
 
 pub returns : goal.returns
 unfolding entries
@@ -39,5 +39,5 @@ returns c =
     let (sound, buffers) = c.requires in
     let going = tried_ok c.in_ok-ascend.ensures refl in
     c.place.ensures _
-    (legal_alone.0 (completes c.of-cell.result c.of-cell.ensures.1 sound buffers (none_given _) (none_leads most_places) _ going))
-    (least_alone.0 (least c.of-cell.result c.of-cell.ensures.1 sound buffers (none_given _) (none_leads most_places) _ going))
+    (legal_alone.0 (completes c.of-cell.result c.of-cell.ensures.1 sound buffers (none_given _) none_leads _ going))
+    (least_alone.0 (least c.of-cell.result c.of-cell.ensures.1 sound buffers (none_given _) none_leads _ going))

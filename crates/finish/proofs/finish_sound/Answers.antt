@@ -16,7 +16,7 @@ pub mark_leads-requires : goal.mark_leads-requires
 mark_leads-requires c = fresh _ c.requires.0 c.requires.2
 
 pub ascend-requires-clause-sound : goal.ascend-requires-clause-sound
-ascend-requires-clause-sound c = let (sound, buffers, stood) = c.requires in (sound, led_low c.of-cell.result c.of-cell.ensures.1 sound buffers stood c.mark_leads.ensures c.mark_leads.array_long)
+ascend-requires-clause-sound c = let (sound, buffers, stood) = c.requires in (sound, led_low c.of-cell.result c.of-cell.ensures.1 sound buffers stood c.mark_leads.ensures)
 
 pub ascend-requires-clause-blank : goal.ascend-requires-clause-blank
 ascend-requires-clause-blank c =
