@@ -4,16 +4,18 @@
 ghost use Rattle.std.specs.Prelude.{◌≡◌, length};
 ghost use Rattle.placement_file.specs.File.{entry_in_range, ranges_judged, columns_judged};
 
+use placement_file::ENTRIES;
 use rules::{Entry, LentPlacement, Refusal};
 
 // An entry's wire and offset are in their ranges.
 pub fn entry_in_range(e: Entry) -> bool
     ensures { result ≡ entry_in_range e }
 {
-    (0 < e.wire) & ((e.wire <= 1024) & (e.offset <= 10000000))
+    (1..=1024).contains(&e.wire) && e.offset <= 10_000_000
 }
 
 // 3 at the first entry out of its range.
+#[tactic(auto, unfolding(placement_file::specs::File::range_judged), using(placement_file::proofs::Judging::in_turn))]
 fn judge_ranges(placement: &LentPlacement) -> Result<(), Refusal>
     requires { length placement.now.offsets.now ≡ length placement.now.wires.now }
     ensures { result ≡ ranges_judged placement.now.wires.now placement.now.offsets.now }
@@ -27,12 +29,12 @@ fn judge_ranges(placement: &LentPlacement) -> Result<(), Refusal>
 }
 
 // 7 where the columns are unequal or too long, then 3: the first refusal, or that they are sound.
+#[tactic(auto, unfolding(placement_file::specs::File::columns_judged))]
 pub fn judge(placement: &LentPlacement) -> Result<(), Refusal>
     ensures { result ≡ columns_judged placement.now.wires.now placement.now.offsets.now }
 {
-    let n = placement.wires.len();
-    let fits = (placement.offsets.len() == n) & (n <= 4096);
-    if !fits {
+    let count = placement.wires.len();
+    if placement.offsets.len() != count || ENTRIES < count {
         return Err(Refusal::WrongColumns);
     }
     judge_ranges(placement)

@@ -1,4 +1,4 @@
--- What a file that is sound says of its count, and sound columns of their lengths.
+-- What a file that is sound says of its count, and sound columns of their lengths; how a loop judges the entries in turn.
 use Rattle.std.specs.Prelude.{Ok}
 use Prim.Native.Nat.{ℕ, ◌≤◌}
 use mathlib.Core.Path.{◌≡◌}
@@ -12,6 +12,7 @@ use Rattle.rules.specs.Judge.{unless}
 use Rattle.rules.specs.Checked.{placement_fits}
 use Rattle.rules.specs.declared.Refusal.TheVariants.{OutOfRange, WrongColumns}
 use Rattle.rules.proofs.Tests.{both_met, then_met, unless_met}
+use Rattle.rules.proofs.Each.{going_stop, going_next, going_end}
 use Rattle.field.specs.Format.{due_at}
 use Rattle.placement_file.specs.File.{due, owed, count_judged, body_judged, file_judged, ranges_judged, columns_judged}
 
@@ -32,3 +33,6 @@ module _ (vs os : List ℕ) where
   pub sound_columns : columns_judged vs os ≡ Ok tt → (placement_fits vs os ≡ true) × (ranges_judged vs os ≡ Ok tt)
   unfolding columns_judged
   sound_columns e = let (a, b) = then_met (unless (placement_fits vs os) WrongColumns) (ranges_judged vs os) e in (unless_met _ WrongColumns a, b)
+
+-- for a loop that judges one entry after the other
+pub ruleset in_turn = (going_stop, going_next, going_end)

@@ -7,6 +7,7 @@ use mathlib.Core.List.{List, map}
 use lib.ListN.{length, set, length-set}
 use lib.Seq.{sets}
 use Rattle.rules.specs.declared.Entry.{Entry}
+use Rattle.placement_reader.proofs.Judging.{entry_there}
 use Rattle.field.specs.Listed.{listed}
 use Rattle.field.proofs.Listing.{listed_next, listed_end}
 
@@ -27,3 +28,6 @@ module _ {f : Entry → ℕ} {g : ℕ → Entry} {n : ℕ} {col₀ col : List �
 
   pub column_end : n ≤ i → col ≡ sets col₀ 0 (map f (listed g n 0))
   column_end h = sym (c.rest ∙ ap (λ (es : List Entry). sets col i (map f es)) (listed_end g h))
+
+-- for the loop that fills
+pub ruleset filling = (entry_there, column_start, column_next, column_end)

@@ -4,10 +4,10 @@
 ghost use Rattle.std.specs.Prelude.{◌≡◌, map, ◌<◌, ◌≤◌, length};
 ghost use Rattle.std.proofs.lemmas.List.Edits.{sets};
 ghost use Rattle.field.specs.Listed.{listed};
-ghost use Rattle.placement_file.specs.File.{allowed, count_in, entry_in, owed, count_judged, entry_at, entry_judged, end_judged, body_judged, file_judged, wire, offset, placement_of, ReadAs};
+ghost use Rattle.placement_file.specs.File.{allowed, count_in, entry_in, owed, count_judged, start_of, entry_at, entry_judged, end_judged, body_judged, file_judged, wire, offset, placement_of, ReadAs};
 
 use field::{Field, Value};
-use placement_file::Entries;
+use placement_file::{ENTRIES, Entries};
 use rules::{Entry, Refusal};
 
 // The number in a count's field; 0 in another.
@@ -31,22 +31,32 @@ fn entry_in(f: Field) -> Entry
 }
 
 // The number of entries that the front of a file says.
+#[tactic(auto, unfolding(placement_file::specs::File::count_judged, placement_file::specs::File::owed))]
 fn read_count(s: &[u8]) -> Result<usize, Refusal>
     ensures { result ≡ allowed (count_judged s.now) (owed s.now) }
 {
     let n = count_in(field_reader::read_due(s, 0, 17)?) as usize;
-    if 4096 < n {
+    if ENTRIES < n {
         return Err(Refusal::OutOfRange(0));
     }
     Ok(n)
 }
 
+// The byte where entry i begins, and where the end does after i entries.
+fn start_of(i: usize) -> usize
+    requires { i ≤ ENTRIES }
+    ensures { result ≡ start_of i }
+{
+    5 + 9 * i
+}
+
 // Entry i of a file.
+#[tactic(auto, unfolding(placement_file::specs::File::entry_judged, placement_file::specs::File::entry_at))]
 fn read_entry(s: &[u8], i: usize) -> Result<Entry, Refusal>
-    requires { i < 4096 }
+    requires { i < ENTRIES }
     ensures { result ≡ allowed (entry_judged s.now i) (entry_at s.now i) }
 {
-    let at = 5 + 9 * i;
+    let at = start_of(i);
     let e = entry_in(field_reader::read_due(s, at, 18)?);
     if !placement::entry_in_range(e) {
         return Err(Refusal::OutOfRange(at));
@@ -55,6 +65,7 @@ fn read_entry(s: &[u8], i: usize) -> Result<Entry, Refusal>
 }
 
 // The end, and no byte after it.
+#[tactic(auto, unfolding(placement_file::specs::File::end_judged))]
 fn judge_end(s: &[u8], at: usize) -> Result<(), Refusal>
     requires { at ≤ 36869 }
     ensures { result ≡ end_judged s.now at }
@@ -68,17 +79,19 @@ fn judge_end(s: &[u8], at: usize) -> Result<(), Refusal>
 }
 
 // The n entries and the end.
+#[tactic(auto, unfolding(placement_file::specs::File::body_judged), using(placement_file::proofs::Judging::in_turn))]
 fn judge_body(s: &[u8], n: usize) -> Result<(), Refusal>
-    requires { n ≤ 4096 }
+    requires { n ≤ ENTRIES }
     ensures { result ≡ body_judged s.now n }
 {
     for i in 0..n {
         read_entry(s, i)?;
     }
-    judge_end(s, 5 + 9 * n)
+    judge_end(s, start_of(n))
 }
 
 // The whole file; where it is sound, the number of its entries.
+#[tactic(auto, unfolding(placement_file::specs::File::file_judged), using(placement_file::proofs::Judging::few))]
 fn judge_file(s: &[u8]) -> Result<usize, Refusal>
     ensures { result ≡ allowed (file_judged s.now) (owed s.now) }
 {
@@ -88,8 +101,9 @@ fn judge_file(s: &[u8]) -> Result<usize, Refusal>
 }
 
 // Fills the columns with the first count entries of a file, which have been judged: each is there.
+#[tactic(auto, using(crate::proofs::Filling::filling))]
 fn fill(s: &[u8], count: usize, wires: &mut [u16], offsets: &mut [u32])
-    requires in_bounds { (count ≤ 4096) × (count ≤ length wires.old) × (count ≤ length offsets.old) }
+    requires in_bounds { (count ≤ ENTRIES) × (count ≤ length wires.old) × (count ≤ length offsets.old) }
     requires sound { body_judged s.now count ≡ Ok tt }
     ensures { (wires.new ≡ sets wires.old 0 (map wire (listed (entry_at s.now) count 0))) × (offsets.new ≡ sets offsets.old 0 (map offset (listed (entry_at s.now) count 0))) }
 {
@@ -101,6 +115,7 @@ fn fill(s: &[u8], count: usize, wires: &mut [u16], offsets: &mut [u32])
 }
 
 // Reads a placement file into the columns. The whole file is judged, in the order of RULES 5.1 and 5.3, before anything is written.
+#[tactic(auto, unfolding(placement_file::specs::File::placement_of), using(crate::proofs::Judging::reading))]
 pub fn read_placement(s: &[u8], wires: &mut [u16], offsets: &mut [u32]) -> Result<usize, Refusal>
     ensures { ReadAs (placement_of s.now) wires.old offsets.old wires.new offsets.new result }
 {
