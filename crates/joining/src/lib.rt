@@ -48,6 +48,7 @@ fn lay_next(
 }
 
 // Lays given and added entries into two columns, in order.
+#[tactic(auto, using(crate::proofs::Joining::lay_none, crate::proofs::Joining::laid))]
 pub fn join(given: &LentPlacement, added: &LentPlacement, wires: &mut [u16], offs: &mut [u32])
     requires even { Even given.now.wires.now given.now.offsets.now added.now.wires.now added.now.offsets.now }
     requires added_in_bounds { let n = length given.now.wires.now + length added.now.wires.now in (n ≤ length wires.old) × (n ≤ length offs.old) }

@@ -1,23 +1,21 @@
 -- The bytes of a placement, and how a buffer comes to hold them: each field laid where the last one ended.
-use Rattle.std.specs.Prelude.{Ok, Err, Result}
+use Rattle.std.specs.Prelude.{Ok, Result}
 use Prim.Native.Nat.{ℕ, ◌+◌, ◌-◌, ◌*◌, ◌<◌, ◌≤◌}
 use native.Mathlib.Omega.{arith}
 use mathlib.Core.Path.{◌≡◌, refl, sym, ap, ◌∙◌}
 use mathlib.Core.List.{List, [], ◌∷◌, ◌++◌}
-use lib.ListN.{length, take, drop, length-append, length-drop}
+use lib.ListN.{length, take, drop, length-drop}
 use lib.Seq.{sets, length-sets, length-take-le}
 use borrow.Author.Tests.{le-ltb}
 use Rattle.rules.specs.Load.{entries}
 use Rattle.rules.specs.declared.Entry.{Entry}
 use Rattle.rules.specs.declared.Refusal.{Refusal}
-use Rattle.rules.specs.declared.Refusal.TheVariants.{NoRoom}
 use Rattle.rules.specs.Figures.{most_entries}
 use Rattle.field.specs.Format.{bytes_of, wrote}
 use Rattle.field.specs.declared.Value.TheVariants.{Count, Entry as AnEntry, End}
 use Rattle.field.proofs.Numbers.{sets_append}
-use Rattle.field.proofs.Writing.{too_little, enough}
 use Rattle.field.specs.Listed.{listed}
-use Rattle.placement_file.specs.File.{column_entry, columns_judged, columns_of, entries_bytes, placement_bytes, WroteAs}
+use Rattle.placement_file.specs.File.{column_entry, columns_judged, entries_bytes, placement_bytes}
 use Rattle.placement_file.proofs.Judging.{fits, sound_columns}
 use Rattle.field.proofs.Listing.{listed_next, listed_end}
 use Rattle.placement_file.proofs.Listing.{entries_listed, length_entries}
@@ -25,11 +23,11 @@ use Rattle.placement_file.proofs.Listing.{entries_listed, length_entries}
 length_body : (es : List Entry) → length (entries_bytes es) ≡ 3 + 9 * length es
 unfolding entries_bytes
 length_body [] = refl
-length_body (e ∷ es) = simp (length-append, length_body es) (omega arith)
+length_body (e ∷ es) = omega (arith, length_body es)
 
 pub length_bytes : (es : List Entry) → length (placement_bytes es) ≡ 8 + 9 * length es
 unfolding placement_bytes
-length_bytes es = simp (length-append, length_body es) (omega arith)
+length_bytes es = omega (arith, length_body es)
 
 -- with room for it, what a written field answers is its length
 pub written_size : (bs out : List ℕ) {w : Result ℕ Refusal} {n : ℕ} → w ≡ wrote bs out → w ≡ Ok n → length bs ≤ length out → n ≡ length bs
@@ -83,24 +81,13 @@ module _ {vs os out₀ out : List ℕ} {at i : ℕ} (p : Putting vs os out₀ ou
       ∙ sym (sets_append out₁ 0 (bytes_of (Count (length vs))) (entries_bytes (entries vs os)))
       ∙ ap (λ (k : ℕ). sets out₁ 0 (bytes_of (Count k) ++ entries_bytes (entries vs os))) (sym (length_entries vs os same))
 
--- ---- what the writer answers and leaves, on each of its ways out
+-- ---- the whole writer
 
-module _ (vs os out : List ℕ) where
-  pub write_refused : {r : Refusal} → columns_judged vs os ≡ Err r → WroteAs (columns_of vs os) out out (Err r)
-  unfolding columns_of
-  write_refused e = rw e (record { answered = refl; bytes = refl })
+pub columns_level : (vs os : List ℕ) → columns_judged vs os ≡ Ok tt → (length os ≡ length vs) × (length vs ≤ most_entries)
+columns_level vs os sound = fits vs os (sound_columns vs os sound).0
 
-  module _ (sound : columns_judged vs os ≡ Ok tt) where
-    pub columns_level : (length os ≡ length vs) × (length vs ≤ most_entries)
-    columns_level = fits vs os (sound_columns vs os sound).0
+pub file_size : (vs os : List ℕ) → length os ≡ length vs → length (placement_bytes (entries vs os)) ≡ 8 + 9 * length vs
+file_size vs os same = length_bytes (entries vs os) ∙ ap (λ (k : ℕ). 8 + 9 * k) (length_entries vs os same)
 
-    size_is : 8 + 9 * length vs ≡ length (placement_bytes (entries vs os))
-    size_is = sym (length_bytes (entries vs os) ∙ ap (λ (k : ℕ). 8 + 9 * k) (length_entries vs os columns_level.0))
-
-    pub write_short : length out < 8 + 9 * length vs → WroteAs (columns_of vs os) out out (Err (NoRoom (8 + 9 * length vs)))
-    unfolding columns_of
-    write_short h = let t = too_little (placement_bytes (entries vs os)) out size_is h in rw sound (record { answered = t.0; bytes = t.1 })
-
-    pub write_whole : 8 + 9 * length vs ≤ length out → {out' : List ℕ} → out' ≡ sets out 0 (placement_bytes (entries vs os)) → WroteAs (columns_of vs os) out out' (Ok (8 + 9 * length vs))
-    unfolding columns_of
-    write_whole h e = let t = enough (placement_bytes (entries vs os)) out size_is h e in rw sound (record { answered = t.0; bytes = t.1 })
+-- what `write_placement` asks of the columns and of the room
+pub ruleset writing = (columns_level, file_size)

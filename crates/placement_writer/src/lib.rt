@@ -7,11 +7,12 @@ ghost use Rattle.rules.specs.Load.{entries};
 ghost use Rattle.placement_file.specs.File.{columns_of, placement_bytes, WroteAs};
 
 use field::Value;
+use placement_file::ENTRIES;
 use rules::{LentPlacement, Refusal};
 
 // Writes the count, the entries and the end, each to the rest of the buffer, right behind its predecessor. There is room for each.
 fn write_fields(placement: &LentPlacement, out: &mut [u8])
-    requires { let n = length placement.now.wires.now in (length placement.now.offsets.now ≡ n) × (n ≤ 4096) × (8 + 9 * n ≤ length out.old) }
+    requires { let n = length placement.now.wires.now in (length placement.now.offsets.now ≡ n) × (n ≤ ENTRIES) × (8 + 9 * n ≤ length out.old) }
     ensures { out.new ≡ sets out.old 0 (placement_bytes (entries placement.now.wires.now placement.now.offsets.now)) }
 {
     let n = placement.wires.len();
@@ -23,6 +24,7 @@ fn write_fields(placement: &LentPlacement, out: &mut [u8])
 }
 
 // Writes the file of a placement. The columns are judged, and the room, in the order of RULES 5.9, before anything is written.
+#[tactic(auto, unfolding(placement_file::specs::File::columns_of), using(crate::proofs::Writing::writing))]
 pub fn write_placement(placement: &LentPlacement, out: &mut [u8]) -> Result<usize, Refusal>
     ensures { WroteAs (columns_of placement.now.wires.now placement.now.offsets.now) out.old out.new result }
 {
