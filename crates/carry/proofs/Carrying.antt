@@ -1,8 +1,9 @@
 -- The order of the carry's refusals: how the answers of its parts make up the outcome.
 use Rattle.std.specs.Prelude.{Result, Ok, Err}
+use Rattle.std.proofs.lemmas.Result.{err_from_is_err_and}
 use Rattle.std.specs.Result.{MatchResult, IsErrAnd}
 use Prim.Native.Nat.{ℕ}
-use mathlib.Core.Path.{◌≡◌, refl, sym, ap}
+use mathlib.Core.Path.{◌≡◌, refl, sym, ap, ◌∙◌}
 use mathlib.Core.List.{List}
 use native.Mathlib.Omega.{arith}
 use lib.ListN.{length}
@@ -32,10 +33,11 @@ pub mapped_ok : {A : Type 0} (j : Result A Refusal) (y : A) → MatchResult j (�
 mapped_ok (Ok x) y m = let q : y ≡ x = cc in ap Ok q
 mapped_ok (Err e) y m = absurd m
 
--- or the refusal, by its new name
-pub mapped_err : {A : Type 0} {name : Refusal → NotCarried} (j : Result A Refusal) (d : NotCarried) → MatchResult j (λ x. ◌≡◌ {A = Result A NotCarried} (Err d) (Ok x)) (λ e. IsErrAnd {T = A} (Err d) (λ x. x ≡ name e)) → (r : Refusal) × (Err r ≡ j) × (d ≡ name r)
-mapped_err (Ok x) d m = absurd (let z : ◌≡◌ {A = ℕ} 0 1 = cc in omega arith)
-mapped_err (Err e) d m = (e, refl, m)
+-- or the refusal, and what the `?` after it returns is that by its new name
+pub mapped_err : {A B : Type 0} {name : Refusal → NotCarried} (j : Result A Refusal) (d : NotCarried) (r : Result B NotCarried) → MatchResult j (λ x. ◌≡◌ {A = Result A NotCarried} (Err d) (Ok x)) (λ e. IsErrAnd {T = A} (Err d) (λ x. x ≡ name e))
+    → IsErrAnd r (λ x. x ≡ d) → (e : Refusal) × (Err e ≡ j) × (r ≡ Err (name e))
+mapped_err (Ok x) d r m k = absurd (let z : ◌≡◌ {A = ℕ} 0 1 = cc in omega arith)
+mapped_err (Err e) d r m k = let (x, q, s) = err_from_is_err_and r k in (e, refl, q ∙ ap Err (s ∙ m))
 
 module _ (n m : Net) (vs os : List ℕ) where
   pub first_refused : (r : Refusal) → Err r ≡ judged n → CarriedIs n m vs os (Err (FirstNet r)) os

@@ -4,12 +4,11 @@ use Prim.Native.Nat.{ℕ, ◌+◌, ◌-◌, ◌≤◌, ◌<◌}
 use mathlib.Core.Path.{◌≡◌, refl, sym, ◌∙◌}
 use mathlib.Core.Bool.{Bool, true, false}
 use native.Mathlib.Omega.{arith}
-use borrow.Author.Tests.{eq-eqb, ne_eqb}
 use Rattle.rules.specs.declared.Node.{Node}
 use Rattle.rules.specs.declared.Refusal.TheVariants.{NotEased}
 use Rattle.rules.specs.Net.{Net, places, node}
 use Rattle.rules.specs.Judge.{unless}
-use Rattle.rules.specs.Ease.{limits_ease, node_eases, nodes_ease, ease_judged}
+use Rattle.rules.specs.Ease.{node_eases, nodes_ease}
 use Rattle.rules.proofs.Each.{Going, going_start, going_stop, going_next, going_end}
 
 -- the loop has come to node i
@@ -32,17 +31,3 @@ module _ {n m : Net} {i : ℕ} (g : Easing n m i) where
 
   pub easing_end : 1 ≤ places n → places n ≤ i → Ok tt ≡ nodes_ease n m
   easing_end o h = going_end g.going (omega arith)
-
--- ---- the limits and the size come first
-module _ (n m : Net) (z : Bool) (ez : z ≡ limits_ease n.limits m.limits) where
-  pub limits_stop : z ≡ false → Err (NotEased 0) ≡ ease_judged n m
-  unfolding ease_judged
-  limits_stop t = rw (← ez, t)
-
-  pub size_stop : z ≡ true → (places m ≡ places n → ⊥) → Err (NotEased 0) ≡ ease_judged n m
-  unfolding ease_judged
-  size_stop t ne = rw (← ez, t, ne_eqb (places m) (places n) ne)
-
-  pub nodes_last : z ≡ true → places m ≡ places n → nodes_ease n m ≡ ease_judged n m
-  unfolding ease_judged
-  nodes_last t e = rw (← ez, t, eq-eqb (places m) (places n) e)

@@ -53,21 +53,18 @@ fn cut_to(wire: &[u32], wires: &[u16], offsets: &mut [u32])
     requires { OnWires wire.now wires.now offsets.old }
     ensures { (m : Net) → m.wires ≡ wire.now → offsets.new ≡ offsets_of (carried m (entries wires.now offsets.old)) }
 {
-    for k in 0..wires.len() {
-        let on = wires[k] as usize;
-        offsets[k] = offsets[k].min(wire[on]);
+    for (k, on) in wires.iter().enumerate() {
+        offsets[k] = offsets[k].min(wire[*on as usize]);
     }
 }
 
 // 13: the limits and the size first, then the nodes.
+#[tactic(auto, unfolding(rules::specs::Ease::ease_judged))]
 fn judge_ease(first: &LentNet, second: &LentNet) -> Result<(), Refusal>
     requires sound { SoundNet (net_of first.now) × SoundNet (net_of second.now) }
     ensures { result ≡ ease_judged (net_of first.now) (net_of second.now) }
 {
-    if !limits_ease(first.limits, second.limits) {
-        return Err(Refusal::NotEased(0));
-    }
-    if second.parent.len() != first.parent.len() {
+    if !limits_ease(first.limits, second.limits) || second.parent.len() != first.parent.len() {
         return Err(Refusal::NotEased(0));
     }
     nodes_ease(first, second)
