@@ -1,5 +1,6 @@
 -- What a verb writes, `check` calls legal: for whatever bytes, and for any replies that the definitions allow. `solve` and `carry` print the
 -- count that `check` finds in their file; where the whole of `finish` fits in a file, that file is legal.
+use Rattle.std.specs.Prelude.{Ok}
 use Prim.Native.Nat.{ℕ, ◌≤◌}
 use native.Mathlib.Omega.{arith}
 use mathlib.Core.Path.{◌≡◌, refl, sym, ap, ◌∙◌}
@@ -9,8 +10,7 @@ use lib.ListN.{length}
 use lib.Dec.{leb}
 use borrow.Author.Tests.{eq-eqb, le-leb, leb-true}
 use Rattle.rules.specs.declared.Entry.{Entry}
-use Rattle.rules.specs.declared.Judged.{Judged}
-use Rattle.rules.specs.declared.Judged.TheVariants.{Sound}
+use Rattle.rules.specs.Judged.{Judged}
 use Rattle.rules.specs.Figures.{most_entries}
 use Rattle.rules.specs.Choose.{pick}
 use Rattle.rules.specs.Net.{Net}
@@ -109,7 +109,7 @@ module _ {bytes given : List ℕ} {a b : Said} (answer : a.status ≡ 48) (writt
 -- ---- carry
 
 module _ {second : List ℕ} {a b : Said} (answer : a.status ≡ 48) (checked : SaysFiles Check second a.file b) where
-  carried : (n m : Net) (ws os : List ℕ) → judged n ≡ Sound → judged m ≡ Sound → net_of second ≡ read m → a ≡ carry_said n m ws os → SameCount carried_word a b
+  carried : (n m : Net) (ws os : List ℕ) → judged n ≡ Ok tt → judged m ≡ Ok tt → net_of second ≡ read m → a ≡ carry_said n m ws os → SameCount carried_word a b
   unfolding counted_text
   carried n m ws os sound sound2 o e =
       let w = carry_written n m ws os sound sound2 (sym (ap (λ (s : Said). s.status) e) ∙ answer) in

@@ -1,17 +1,17 @@
 -- What the verbs say for the bytes of their files (RULES 11.3 to 11.9): the files' own refusals in the order typed, and then what the call says.
-use Rattle.std.specs.Prelude.{ℕ, ◌≤◌, ◌≡◌, List, ◌∷◌, map, length}
+use Rattle.std.specs.Prelude.{ℕ, ◌≡◌, List, ◌∷◌, map, Result, Ok, Err}
 use Rattle.rules.specs.declared.Entry.{Entry}
 use Rattle.rules.specs.declared.Refusal.{Refusal}
-use Rattle.rules.specs.declared.Judged.TheVariants.{Sound}
-use Rattle.rules.specs.Figures.{most_entries}
 use Rattle.rules.specs.Net.{Net}
-use Rattle.rules.specs.Judge.{judged}
 use Rattle.net_file.specs.NetFile as net_file
 use Rattle.placement_file.specs.File as placement_file
-use Rattle.reply.specs.Said.{Said, refusal, net, placement}
+use Rattle.reply.specs.declared.Reply.{Reply}
+use Rattle.reply.specs.Said.{Said, refusal, net, placement, Conveys}
 use Rattle.check_reply.specs.Checks.{check_said, loads_said}
 use Rattle.carry_reply.specs.Carries.{carry_said}
 use Rattle.finish_reply.specs.Finishes.{Finishes}
+use Rattle.replies.specs.declared.Fault.{Fault}
+use Rattle.replies.specs.declared.Fault.TheVariants.{Net as NetFault, FirstNet, SecondNet, Placement}
 use Rattle.replies.specs.declared.Verb.{Verb}
 use Rattle.replies.specs.declared.Verb.TheVariants.{Check, Loads, Finish}
 
@@ -24,6 +24,13 @@ first_net = 102 ∷ 105 ∷ 114 ∷ 115 ∷ 116 ∷ 32 ∷ net
 -- "second net "
 abbrev pub second_net : List ℕ
 second_net = 115 ∷ 101 ∷ 99 ∷ 111 ∷ 110 ∷ 100 ∷ 32 ∷ net
+
+-- what is said of a file at fault
+abbrev pub of_fault : Fault → Said
+of_fault (NetFault r) = refusal net r
+of_fault (FirstNet r) = refusal first_net r
+of_fault (SecondNet r) = refusal second_net r
+of_fault (Placement r) = refusal placement r
 
 -- ---- a file at fault, by a word; else what follows from what is in it
 
@@ -62,8 +69,7 @@ CarriesFiles first second file s = OfNet first_net first (λ n. CarriesFrom n se
 
 -- ---- between the functions
 
--- a sound net, and columns that a placement may have
-pub record Columns (n : Net) (ws os : List ℕ) : Type 0 where
-  pub sound : judged n ≡ Sound
-  pub even : length os ≡ length ws
-  pub few : length ws ≤ most_entries
+-- a reply that says something right, or a file at fault of which it is right to say so
+abbrev pub SaysOr : (Said → Type 0) → List ℕ → List ℕ → Result Reply Fault → Type 0
+SaysOr Right texts files (Ok r) = Conveys Right texts files r
+SaysOr Right texts files (Err f) = Right (of_fault f)
