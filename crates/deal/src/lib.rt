@@ -19,9 +19,11 @@ fn gains(chains: &Chains, p: usize, j: usize, next: usize) -> bool
     requires { (p ≤ 1) × (j < most_places) × (next < most_places) }
     ensures { Gains chains.now.slots p j next result }
 {
-    let [least, more, _, _] = chains.slots[j * 2 + p];
-    let [_, _, rest_least, rest_more] = chains.slots[next * 2 + p];
-    (more as u64) + (rest_least as u64) < (least as u64) + (rest_more as u64)
+    let own = chains.slots[j * 2 + p];
+    let rest = chains.slots[next * 2 + p];
+    let without = own.load as u64 + rest.all_more as u64;
+    let with = own.more as u64 + rest.all_load as u64;
+    with < without
 }
 
 // Deals a surplus of 1 out to the wires from k on under a point: the first that gains by it takes it.

@@ -26,12 +26,13 @@ use Rattle.states.specs.declared.Cell.{Cell}
 use Rattle.states.specs.States.{model_of, limits_of, CellOk}
 use Rattle.states.proofs.Leaves.{model_is}
 use Rattle.columns.specs.Columns.{room_in}
+use Rattle.surplus.specs.declared.Slot.{Slot}
+use Rattle.surplus.specs.declared.Closed.{Closed}
 use Rattle.surplus.specs.Wires.{Alive, side_of}
-use Rattle.surplus.specs.Pairs.{near_state}
 use Rattle.surplus.specs.Links.{First}
 use Rattle.surplus.specs.Dealt.{Dealt}
 use Rattle.surplus.specs.Choice.{Under, Budgeted}
-use Rattle.surplus.specs.Tables.{head_at, field, count_at, WiresJoined, NodesClosed}
+use Rattle.surplus.specs.Tables.{head_at, near_of, state_of, count_at, WiresJoined, NodesClosed}
 use Rattle.surplus.specs.Asks.{part_at, Asks, Out}
 use Rattle.surplus.specs.Descent.{Begun, Written}
 use Rattle.surplus.proofs.Bounds.{acc_small}
@@ -81,17 +82,17 @@ picks_by a b m x y n u v e f = go (ltb n m) refl
     go false q = picks_more a b m x y n u v e f (ltb-false n m q)
 
 -- ---- out of the tables
-module _ {c : Cell} (ok : CellOk c) {n : Net} (sound : SoundNet n) {links : List ℕ} {slots : List (List ℕ)} {sums : List ℕ} {near : List (List ℕ)}
-    (w : WiresJoined (model_of c) n links slots sums 1) (cl : NodesClosed (model_of c) n near 0) where
+module _ {c : Cell} (ok : CellOk c) {n : Net} (sound : SoundNet n) {links : List ℕ} {slots : List Slot} {near : List Closed}
+    (w : WiresJoined (model_of c) n links slots 1) (cl : NodesClosed (model_of c) n near 0) where
   first : First n 1 0 (head_at links 0)
   first = own_first (model_of c) sound w (omega arith) sound.some
 
   pub head_low : head_at links 0 < most_places
   head_low = omega (arith, first.low, sound.few)
 
-  pub head_count : (p : ℕ) → p ≤ 1 → count_at sums p (head_at links 0) ≤ 100000000001
+  pub head_count : (p : ℕ) → p ≤ 1 → count_at slots p (head_at links 0) ≤ 100000000001
   head_count p lp =
-      count_small slots sums p (head_at links 0) (acc (model_of c) (tree n) p) (slot_at (model_of c) w lp 1 0 (head_at links 0) (omega arith) first)
+      count_small slots p (head_at links 0) (acc (model_of c) (tree n) p) (slot_at (model_of c) w lp 1 0 (head_at links 0) (omega arith) first)
       (acc_small (model_of c) ok.eq ok.pos ok.small sound (places n - 1) 0 p (omega (arith, sound.some)) lp)
 
   node_close : (p κ : ℕ) → κ ≡ 0 → side_of (model_of c) κ (pin n 0) (polarity n 0) (2 * width (tree n)) (acc (model_of c) (tree n) p) p ≡ close (model_of c) (2 * width (tree n)) (acc (model_of c) (tree n) p)
@@ -99,12 +100,12 @@ module _ {c : Cell} (ok : CellOk c) {n : Net} (sound : SoundNet n) {links : List
   node_close p (suc κ) e = absurd (omega arith)
 
   -- what is kept of the source is its state
-  pub source_is : {p h : ℕ} {x : State} → p ≤ 1 → h ≡ head_at links 0 → x ≡ near_state (count_at sums p h) (field near p 0 0) (field near p 0 1) (field near p 0 2) → x ≡ close (model_of c) (2 * width (tree n)) (acc (model_of c) (tree n) p)
+  pub source_is : {p h : ℕ} {x : State} → p ≤ 1 → h ≡ head_at links 0 → x ≡ state_of (count_at slots p h) (near_of near p 0) → x ≡ close (model_of c) (2 * width (tree n)) (acc (model_of c) (tree n) p)
   source_is {p} {h} lp e ex =
-      ex ∙ ap (λ (k : ℕ). near_state (count_at sums p k) (field near p 0 0) (field near p 0 1) (field near p 0 2)) e
+      ex ∙ ap (λ (k : ℕ). state_of (count_at slots p k) (near_of near p 0)) e
       ∙ sym (node_is (model_of c) sound w (omega arith) sound.some near lp (cl.is 0 p (omega arith) sound.some lp)) ∙ node_close p (kind n 0) sound.source
 
-  module _ {h : ℕ} {x y : State} (e : h ≡ head_at links 0) (ex : x ≡ near_state (count_at sums 0 h) (field near 0 0 0) (field near 0 0 1) (field near 0 0 2)) (ey : y ≡ near_state (count_at sums 1 h) (field near 1 0 0) (field near 1 0 1) (field near 1 0 2)) where
+  module _ {h : ℕ} {x y : State} (e : h ≡ head_at links 0) (ex : x ≡ state_of (count_at slots 0 h) (near_of near 0 0)) (ey : y ≡ state_of (count_at slots 1 h) (near_of near 1 0)) where
     pub root_is : {z : State} → merge x y ≡ z → frontier.root (model_of c) (tree n) ≡ z
     root_is q = sym (ap (λ (s : State). merge s y) (source_is (omega arith) e ex) ∙ ap (merge (close (model_of c) (2 * width (tree n)) (acc (model_of c) (tree n) 0))) (source_is (omega arith) e ey)) ∙ q
 
@@ -123,21 +124,21 @@ module _ {c : Cell} (ok : CellOk c) {n : Net} (sound : SoundNet n) {links : List
     under_source : Under (close (model_of c) (2 * width (tree n)) (acc (model_of c) (tree n) p)) 0 N r.load
     under_source = subst (λ (s : State). Under s 0 N r.load) (sym r.is) (refl, refl)
 
-    state_is : close (model_of c) (2 * width (tree n)) (acc (model_of c) (tree n) p) ≡ near_state (count_at sums p (head_at links 0)) (field near p 0 0) (field near p 0 1) (field near p 0 2)
+    state_is : close (model_of c) (2 * width (tree n)) (acc (model_of c) (tree n) p) ≡ state_of (count_at slots p (head_at links 0)) (near_of near p 0)
     state_is = sym (source_is r.few refl refl)
 
-    pub some : 1 ≤ field near p 0 2
-    some = over_some (count_at sums p (head_at links 0)) (field near p 0 0) (field near p 0 1) (field near p 0 2) 0 N r.load (subst (λ (s : State). Under s 0 N r.load) state_is under_source)
+    pub some : 1 ≤ (near_of near p 0).over
+    some = over_some (count_at slots p (head_at links 0)) (near_of near p 0) 0 N r.load (subst (λ (s : State). Under s 0 N r.load) state_is under_source)
 
-    budget : Budgeted (acc (model_of c) (tree n) p) (field near p 0 2 - 1) N r.load
+    budget : Budgeted (acc (model_of c) (tree n) p) ((near_of near p 0).over - 1) N r.load
     budget =
-        near_0 (model_of c) (2 * width (tree n)) (field near p 0 0) (field near p 0 1) (field near p 0 2 - 1) N r.load (acc (model_of c) (tree n) p)
-        (near_branch (model_of c) n p 0 (kind n 0) (field near p 0 0) (field near p 0 1) (field near p 0 2) sound.source some (cl.is 0 p (omega arith) sound.some r.few)) under_source
+        near_0 (model_of c) (2 * width (tree n)) (near_of near p 0).load (near_of near p 0).more ((near_of near p 0).over - 1) N r.load (acc (model_of c) (tree n) p)
+        (near_branch (model_of c) n p 0 (kind n 0) (near_of near p 0) sound.source some (cl.is 0 p (omega arith) sound.some r.few)) under_source
 
     live : Alive (acc (model_of c) (tree n) p)
     live = go (acc (model_of c) (tree n) p) budget
       where
-        go : (y : Acc) → Budgeted y (field near p 0 2 - 1) N r.load → Alive y
+        go : (y : Acc) → Budgeted y ((near_of near p 0).over - 1) N r.load → Alive y
         go fail b = b
         go (all m g) b = tt
 
@@ -151,13 +152,13 @@ module _ {c : Cell} (ok : CellOk c) {n : Net} (sound : SoundNet n) {links : List
     sense : sense_at (set (replicate most_places 0) 0 p) 0 ≡ p
     sense = get_or-set_same (replicate most_places 0) 0 p 0 (omega (arith, length-replicate {A = ℕ} most_places 0))
 
-    begun_with : (ws os parts : List ℕ) → length parts ≡ most_places → Dealt (model_of c) (part_at parts) p (field near p 0 2 - 1) (tree n) → ((j : ℕ) → 1 ≤ parent n j → part_at parts j ≡ 0) → N ≤ room_in ws os
+    begun_with : (ws os parts : List ℕ) → length parts ≡ most_places → Dealt (model_of c) (part_at parts) p ((near_of near p 0).over - 1) (tree n) → ((j : ℕ) → 1 ≤ parent n j → part_at parts j ≡ 0) → N ≤ room_in ws os
         → Begun (model_of c) n (set (replicate most_places 0) 0 p) parts N ws os
     begun_with ws os parts long dealt fresh room = record {
       senses_long = simp length-set (length-replicate {A = ℕ} most_places 0);
       parts_long = long;
       sense = rw sense r.few;
-      left = field near p 0 2 - 1;
+      left = (near_of near p 0).over - 1;
       load = r.load;
       more = r.more;
       is = rw sense r.is;
@@ -168,10 +169,10 @@ module _ {c : Cell} (ok : CellOk c) {n : Net} (sound : SoundNet n) {links : List
       in_offsets = omega arith;
     }
 
-    dealt_none : field near p 0 2 - 1 ≡ 0 → Dealt (model_of c) (part_at (replicate most_places 0)) p (field near p 0 2 - 1) (tree n)
+    dealt_none : (near_of near p 0).over - 1 ≡ 0 → Dealt (model_of c) (part_at (replicate most_places 0)) p ((near_of near p 0).over - 1) (tree n)
     dealt_none q = rw q (dealt_0 (model_of c) (part_at (replicate most_places 0)) p (tree n) live (hanging_each sound 0 (λ j. part_at (replicate most_places 0) j ≡ 0) (λ j g u. none_yet j) 1))
 
-    pub begun : (ws os parts : List ℕ) (e : ℕ) → e ≡ field near p 0 2 - 1 → Handed (model_of c) links slots (replicate most_places 0) p 0 e parts → N ≤ room_in ws os → Begun (model_of c) n (set (replicate most_places 0) 0 p) parts N ws os
+    pub begun : (ws os parts : List ℕ) (e : ℕ) → e ≡ (near_of near p 0).over - 1 → Handed (model_of c) links slots (replicate most_places 0) p 0 e parts → N ≤ room_in ws os → Begun (model_of c) n (set (replicate most_places 0) 0 p) parts N ws os
     begun ws os parts e q y room = elim (ℕ_discrete e 0) [
       | yes x ↦ rw (y.none x) (begun_with ws os (replicate most_places 0) (length-replicate {A = ℕ} most_places 0) (dealt_none (sym q ∙ x)) (λ j l. none_yet j) room)
       | no ne ↦

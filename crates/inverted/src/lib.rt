@@ -38,7 +38,7 @@ fn place(
     offsets: &mut [u32],
 ) -> usize
     requires sound { (limits_of c ≡ net.now.limits) × (c.repeater ≡ 1) × SoundNet (net_of net.now) }
-    requires wires_joined { WiresJoined (model_of c) (net_of net.now) tables.now.chains.links tables.now.chains.slots tables.now.chains.sums 1 × NodesClosed (model_of c) (net_of net.now) tables.now.near 0 }
+    requires wires_joined { WiresJoined (model_of c) (net_of net.now) tables.now.chains.links tables.now.chains.slots 1 × NodesClosed (model_of c) (net_of net.now) tables.now.near 0 }
     requires rooted { Rooted (model_of c) (net_of net.now) p m × (m ≤ room_in wires.old offsets.old) }
     ensures { Outcome (net_of net.now) wires.old offsets.old wires.new offsets.new (Ok result) }
 {
@@ -48,7 +48,14 @@ fn place(
     let e = tables.surplus(p, 0);
     walk::hand_on(c, rows, &tables.chains, p, 0, e, &mut parts);
     walk::descend(
-        c, net, rows, tables, &mut senses, &mut parts, wires, offsets,
+        c,
+        net,
+        rows,
+        tables,
+        &mut senses,
+        &mut parts,
+        wires,
+        offsets,
     );
     m as usize
 }
@@ -63,7 +70,7 @@ fn decide(
     offsets: &mut [u32],
 ) -> Result<usize, Refusal>
     requires sound { (limits_of c ≡ net.now.limits) × (c.repeater ≡ 1) × SoundNet (net_of net.now) }
-    requires wires_joined { WiresJoined (model_of c) (net_of net.now) tables.now.chains.links tables.now.chains.slots tables.now.chains.sums 1 × NodesClosed (model_of c) (net_of net.now) tables.now.near 0 }
+    requires wires_joined { WiresJoined (model_of c) (net_of net.now) tables.now.chains.links tables.now.chains.slots 1 × NodesClosed (model_of c) (net_of net.now) tables.now.near 0 }
     ensures { Outcome (net_of net.now) wires.old offsets.old wires.new offsets.new result }
 {
     let h = tables.chains.head(0);

@@ -11,6 +11,7 @@ ghost use Rattle.surplus.specs.Tables.{next_at, head_at, lo_at, hi_at};
 ghost use Rattle.surplus.specs.Asks.{Runs, Running, Rows, CloseIs, ClosedIs, AsksClose, AskedClose};
 
 use states::Cell;
+use surplus::{Closed, Slot};
 
 // The places of a table over nodes, and of one that has two for each.
 pub const PLACES: usize = 1025;
@@ -22,13 +23,12 @@ const CHILDREN: usize = 8;
 
 pub const ROWS: usize = (CHILDREN + 1) * (CHILDREN + 1);
 
-// What is kept of the wires under each node. They are a chain, by two links for each place: a wire's next one and a node's first, 0 for none. A slot is of a wire and a
-// polarity: the wire's least load and that with one more, the same of the wires from it on, and in `sums` one more than their count.
+// What is kept of the wires under each node. They are a chain, by two links for each place: a wire's next one and a node's first, 0 for none. A slot is of a wire at one
+// polarity.
 #[derive(Drop)]
 pub struct Chains {
     pub links: [u16; SIDES],
-    pub slots: [[u32; 4]; SIDES],
-    pub sums: [u64; SIDES],
+    pub slots: [Slot; SIDES],
 }
 
 impl Chains {
@@ -54,10 +54,10 @@ impl Chains {
         ensures { (result.least ≡ lo_at self.now.slots p j) × (result.one ≡ hi_at self.now.slots p j) × (result.two ≡ min (lo_at self.now.slots p j) c.pin) }
     {
         let own = self.slots[j * 2 + p];
-        let least = own[0] as u64;
+        let least = own.load as u64;
         Loads {
             least,
-            one: own[1] as u64,
+            one: own.more as u64,
             two: least.min(c.pin),
         }
     }
@@ -140,22 +140,7 @@ fn first_fit(rows: &[u32; ROWS], at: usize, last: usize, limit: u64) -> Option<u
     None
 }
 
-// What is kept of a node: its least load, that with one more, and one more than the surplus that it takes; 0 for none.
-#[derive(Clone, Copy)]
-pub struct Closed {
-    pub load: u32,
-    pub more: u32,
-    pub over: u32,
-}
-
-// A node without a state.
-pub const NONE: Closed = Closed {
-    load: 0,
-    more: 0,
-    over: 0,
-};
-
-// It is read off the row of its m wires.
+// What is kept of a node, off the row of its m wires.
 fn close_row(c: Cell, rows: &[u32; ROWS], m: usize) -> Closed
     requires { m ≤ most_children }
     ensures { CloseIs (model_of c) rows.now m result.load result.more result.over }
@@ -163,7 +148,7 @@ fn close_row(c: Cell, rows: &[u32; ROWS], m: usize) -> Closed
     let at = m * m;
     let last = m * 2;
     let Some(e) = first_fit(rows, at, last, c.limit) else {
-        return NONE;
+        return Closed::NONE;
     };
     let least = load_at(rows, at, last, e);
     let more = least.min(load_at(rows, at, last, e + 1));
@@ -177,18 +162,17 @@ fn close_row(c: Cell, rows: &[u32; ROWS], m: usize) -> Closed
 // A node's state out of the slot k of its wires. Where their least loads fit it takes no surplus, and needs no row.
 pub fn close(c: Cell, rows: &mut [u32; ROWS], chains: &Chains, p: usize, k: usize) -> Closed
     requires p_bound { (p ≤ 1) × (k < most_places) }
-    requires asked_close { AskedClose (model_of c) chains.now.links chains.now.slots chains.now.sums p k }
-    ensures { (f : Hanging) → AsksClose (model_of c) chains.now.links chains.now.slots chains.now.sums p k f → ClosedIs (model_of c) p f result.load result.more result.over }
+    requires asked_close { AskedClose (model_of c) chains.now.links chains.now.slots p k }
+    ensures { (f : Hanging) → AsksClose (model_of c) chains.now.links chains.now.slots p k f → ClosedIs (model_of c) p f result.load result.more result.over }
 {
-    let at = k * 2 + p;
-    if chains.sums[at] == 0 {
-        return NONE;
+    let slot = chains.slots[k * 2 + p];
+    if slot.count == 0 {
+        return Closed::NONE;
     }
-    let [_, _, least, more] = chains.slots[at];
-    if least as u64 <= c.limit {
+    if slot.all_load as u64 <= c.limit {
         return Closed {
-            load: least,
-            more: least.min(more),
+            load: slot.all_load,
+            more: slot.all_load.min(slot.all_more),
             over: 1,
         };
     }

@@ -14,6 +14,7 @@ use Rattle.rules.proofs.Hanging.{hanging_skip, hanging_end}
 use Rattle.frontier.specs.Cell.{Cell}
 use Rattle.frontier.specs.Frontier.{State, lost, has, Acc, fail, all, acc}
 use Rattle.states.specs.States.{SmallS}
+use Rattle.surplus.specs.declared.Slot.{Slot}
 use Rattle.surplus.specs.Rows.{SmallAcc}
 use Rattle.surplus.specs.Wires.{tip, Each, On, Alive, lift_of}
 use Rattle.surplus.specs.Pairs.{PairOf}
@@ -30,7 +31,7 @@ grow_rest : (τ : Cell) (p κ i w c s : ℕ) (f r : Hanging) → Alive (acc τ (
 grow_rest τ p zero i w c s f r l = rest_alive τ p (branch i w f r) tt l
 grow_rest τ p (suc κ) i w c s f r l = rest_alive τ p (sink i w c s r) tt l
 
-paired_grow : (τ : Cell) (links : List ℕ) (slots : List (List ℕ)) (p κ k w c s : ℕ) (f r : Hanging) → PairIs slots p k (acc τ (grow κ k w c s f r) p) → Paired τ links slots p (next_at links k) r → Paired τ links slots p k (grow κ k w c s f r)
+paired_grow : (τ : Cell) (links : List ℕ) (slots : List Slot) (p κ k w c s : ℕ) (f r : Hanging) → PairIs slots p k (acc τ (grow κ k w c s f r) p) → Paired τ links slots p (next_at links k) r → Paired τ links slots p k (grow κ k w c s f r)
 paired_grow τ links slots p zero k w c s f r h d = (h, d)
 paired_grow τ links slots p (suc κ) k w c s f r h d = (h, d)
 
@@ -57,19 +58,19 @@ each_on P (branch i w f r) j l (inr o) = each_on P r j l.1 o
 pub not_ours : {n : Net} → SoundNet n → (v j : ℕ) → (parent n j ≡ v → ⊥) → On j (under n v) → ⊥
 not_ours {n} sound v j ne o = ne (each_on (λ j. parent n j ≡ v) (under n v) j (hanging_ours sound v (suc v)) o)
 
-pair_is : (slots : List (List ℕ)) (p k c : ℕ) (z : Acc) → Alive z → PairOf c (zero_at slots p k) (one_at slots p k) z → PairIs slots p k z
+pair_is : (slots : List Slot) (p k c : ℕ) (z : Acc) → Alive z → PairOf c (zero_at slots p k) (one_at slots p k) z → PairIs slots p k z
 pair_is slots p k c fail l h = l
 pair_is slots p k c (all m g) l h = (h.1, h.2)
 
-module _ (τ : Cell) {n : Net} {links : List ℕ} {slots : List (List ℕ)} {sums : List ℕ} {i₀ : ℕ} (w : WiresJoined τ n links slots sums i₀) {p : ℕ} (lp : p ≤ 1) where
+module _ (τ : Cell) {n : Net} {links : List ℕ} {slots : List Slot} {i₀ : ℕ} (w : WiresJoined τ n links slots i₀) {p : ℕ} (lp : p ≤ 1) where
   -- the slot of the wires from i on under v
-  pub slot_at : (i v k : ℕ) → i₀ ≤ i → First n i v k → SlotIs slots sums p k (acc τ (hanging n (places n - i) v) p)
+  pub slot_at : (i v k : ℕ) → i₀ ≤ i → First n i v k → SlotIs slots p k (acc τ (hanging n (places n - i) v) p)
   unfolding acc
   slot_at i v k l f = elim (ℕ_discrete k 0) [
     | yes q ↦ let (c, x, y) = w.end p lp in rw (f.not q, q) (c, x, y)
     | no ne ↦
         let z : 1 ≤ k = omega arith in
-        rw (f.same z) (subst (λ (u : ℕ). SlotIs slots sums p k (acc τ (hanging n (places n - k) u) p)) (f.ours z) (w.slot k p (omega (arith, f.from z)) z f.low lp))
+        rw (f.same z) (subst (λ (u : ℕ). SlotIs slots p k (acc τ (hanging n (places n - k) u) p)) (f.ours z) (w.slot k p (omega (arith, f.from z)) z f.low lp))
   ]
 
 module _ (τ : Cell) (eq : τ.cu ≡ τ.cb + τ.D) (pos : 1 ≤ τ.D) (small : τ.cu ≤ 1000000) {n : Net} (sound : SoundNet n) where
@@ -86,7 +87,7 @@ module _ (τ : Cell) (eq : τ.cu ≡ τ.cb + τ.D) (pos : 1 ≤ τ.D) (small : �
         | no ne ↦ rw (hanging_skip n i v h ne) ih
       ]
 
-  module _ {links : List ℕ} {slots : List (List ℕ)} {sums : List ℕ} {i₀ : ℕ} (w : WiresJoined τ n links slots sums i₀) {p : ℕ} (lp : p ≤ 1) where
+  module _ {links : List ℕ} {slots : List Slot} {i₀ : ℕ} (w : WiresJoined τ n links slots i₀) {p : ℕ} (lp : p ≤ 1) where
     -- and their chain
     pub runs_at : (i v k : ℕ) → i₀ ≤ i → v < i → i ≤ places n → First n i v k → Alive (acc τ (hanging n (places n - i) v) p) → Runs τ links slots p k (hanging n (places n - i) v)
     runs_at i v k l lt le f a = record {
@@ -98,11 +99,11 @@ module _ (τ : Cell) (eq : τ.cu ≡ τ.cb + τ.D) (pos : 1 ≤ τ.D) (small : �
       few = width_few sound (places n - i) v (omega arith);
     }
 
-    pub asks_close : (i v k : ℕ) → i₀ ≤ i → v < i → i ≤ places n → First n i v k → AsksClose τ links slots sums p k (hanging n (places n - i) v)
+    pub asks_close : (i v k : ℕ) → i₀ ≤ i → v < i → i ≤ places n → First n i v k → AsksClose τ links slots p k (hanging n (places n - i) v)
     asks_close i v k l lt le f = record { slot = slot_at τ w lp i v k l f; runs = runs_at i v k l lt le f }
 
     pair_here : (i v k : ℕ) (x : Hanging) → i₀ ≤ i → First n i v k → hanging n (places n - i) v ≡ x → Alive (acc τ x p) → PairIs slots p k (acc τ x p)
-    pair_here i v k x g f e a = pair_is slots p k (count_at sums p k) (acc τ x p) a (subst (λ (x : Hanging). SlotIs slots sums p k (acc τ x p)) e (slot_at τ w lp i v k g f))
+    pair_here i v k x g f e a = pair_is slots p k (count_at slots p k) (acc τ x p) a (subst (λ (x : Hanging). SlotIs slots p k (acc τ x p)) e (slot_at τ w lp i v k g f))
 
     paired_by : (l i v k : ℕ) → i₀ ≤ i → places n - i ≤ l → First n i v k → Alive (acc τ (hanging n (places n - i) v) p) → Paired τ links slots p k (hanging n (places n - i) v)
     paired_by zero i v k g e f a = elim (ℕ_discrete k 0) [ yes q ↦ rw (f.not q) (pair_here i v k none g f (f.not q) (subst (λ (x : Hanging). Alive (acc τ x p)) (f.not q) a)) | no ne ↦ absurd (omega (arith, f.from (omega arith), f.low)) ]

@@ -8,6 +8,7 @@ use Rattle.rules.specs.Figures.{most_places}
 use Rattle.rules.specs.Tree.{Hanging, none, sink, branch}
 use Rattle.frontier.specs.Cell.{Cell}
 use Rattle.frontier.specs.Frontier.{width}
+use Rattle.surplus.specs.declared.Slot.{Slot}
 use Rattle.surplus.specs.Rows.{load_at}
 use Rattle.surplus.specs.Wires.{rest}
 use Rattle.surplus.specs.Links.{Chain}
@@ -21,15 +22,15 @@ use Rattle.surplus.proofs.Dealing.{takes_row}
 use Rattle.surplus.proofs.One.{Way, way_start, way_out, way_on, way_take}
 
 -- under way, with m wires left
-pub record WayMore (τ : Cell) (rows links : List ℕ) (slots : List (List ℕ)) (parts₀ parts : List ℕ) (p e : ℕ) (f : Hanging) (j left m : ℕ) : Type 0 where
+pub record WayMore (τ : Cell) (rows links : List ℕ) (slots : List Slot) (parts₀ parts : List ℕ) (p e : ℕ) (f : Hanging) (j left m : ℕ) : Type 0 where
   pub way : Way τ links slots parts₀ parts p e f j left
   pub made : Rows τ rows p m way.x
 
-pub more_start : {τ : Cell} {rows links : List ℕ} {slots : List (List ℕ)} {parts : List ℕ} {p k n : ℕ} {f : Hanging} (e : ℕ) → AsksMore τ rows links slots parts p k n f → WayMore τ rows links slots parts parts p e f k e n
+pub more_start : {τ : Cell} {rows links : List ℕ} {slots : List Slot} {parts : List ℕ} {p k n : ℕ} {f : Hanging} (e : ℕ) → AsksMore τ rows links slots parts p k n f → WayMore τ rows links slots parts parts p e f k e n
 unfolding way_start
 more_start e a = record { way = way_start e a.asks; made = a.made }
 
-module _ {τ : Cell} {rows links : List ℕ} {slots : List (List ℕ)} {parts₀ parts : List ℕ} {p e : ℕ} {f : Hanging} {j left m : ℕ} (w : WayMore τ rows links slots parts₀ parts p e f j left m) where
+module _ {τ : Cell} {rows links : List ℕ} {slots : List Slot} {parts₀ parts : List ℕ} {p e : ℕ} {f : Hanging} {j left m : ℕ} (w : WayMore τ rows links slots parts₀ parts p e f j left m) where
   pub more_out : m ≡ 0 → Out τ parts₀ parts p e f
   more_out z = way_out w.way (go w.way.x w.way.runs.chain (w.made.wide ∙ z))
     where

@@ -11,6 +11,7 @@ use Rattle.rules.specs.Figures.{most_places}
 use Rattle.rules.specs.Tree.{Hanging, none, sink, branch}
 use Rattle.frontier.specs.Cell.{Cell}
 use Rattle.frontier.specs.Frontier.{all, acc}
+use Rattle.surplus.specs.declared.Slot.{Slot}
 use Rattle.surplus.specs.Wires.{More, first, rest, tip, Each, On}
 use Rattle.surplus.specs.Pairs.{PairOf}
 use Rattle.surplus.specs.Dealt.{Takes}
@@ -26,18 +27,18 @@ each_on P none f = tt
 each_on P (sink i w c s r) f = (f i (inl refl), each_on P r (λ j y. f j (inr y)))
 each_on P (branch i w g r) f = (f i (inl refl), each_on P r (λ j y. f j (inr y)))
 
-paired_rest : (τ : Cell) (links : List ℕ) (slots : List (List ℕ)) (p k : ℕ) (x : Hanging) → More x → Paired τ links slots p k x → Paired τ links slots p (next_at links (first x)) (rest x)
+paired_rest : (τ : Cell) (links : List ℕ) (slots : List Slot) (p k : ℕ) (x : Hanging) → More x → Paired τ links slots p k x → Paired τ links slots p (next_at links (first x)) (rest x)
 paired_rest τ links slots p k none h d = absurd h
 paired_rest τ links slots p k (sink i w c s r) h d = d.1
 paired_rest τ links slots p k (branch i w f r) h d = d.1
 
-paired_here : (τ : Cell) (links : List ℕ) (slots : List (List ℕ)) (p k : ℕ) (x : Hanging) → Paired τ links slots p k x → PairIs slots p k (acc τ x p)
+paired_here : (τ : Cell) (links : List ℕ) (slots : List Slot) (p k : ℕ) (x : Hanging) → Paired τ links slots p k x → PairIs slots p k (acc τ x p)
 paired_here τ links slots p k none d = d
 paired_here τ links slots p k (sink i w c s r) d = d.0
 paired_here τ links slots p k (branch i w f r) d = d.0
 
 -- under way at wire j
-pub record Way (τ : Cell) (links : List ℕ) (slots : List (List ℕ)) (parts₀ parts : List ℕ) (p e : ℕ) (f : Hanging) (j left : ℕ) : Type 0 where
+pub record Way (τ : Cell) (links : List ℕ) (slots : List Slot) (parts₀ parts : List ℕ) (p e : ℕ) (f : Hanging) (j left : ℕ) : Type 0 where
   pub x : Hanging
   pub lo : ℕ
   pub long : length parts ≡ most_places
@@ -45,7 +46,7 @@ pub record Way (τ : Cell) (links : List ℕ) (slots : List (List ℕ)) (parts�
   pub runs : Runs τ links slots p j x
   pub paired : Paired τ links slots p j x
 
-unfoldable pub way_start : {τ : Cell} {links : List ℕ} {slots : List (List ℕ)} {parts : List ℕ} {p k : ℕ} {f : Hanging} (e : ℕ) → Asks τ links slots parts p k f → Way τ links slots parts parts p e f k e
+unfoldable pub way_start : {τ : Cell} {links : List ℕ} {slots : List Slot} {parts : List ℕ} {p k : ℕ} {f : Hanging} (e : ℕ) → Asks τ links slots parts p k f → Way τ links slots parts parts p e f k e
 way_start {τ} {links} {slots} {parts} {p} {k} {f} e a = record {
   x = f;
   lo = 1;
@@ -55,7 +56,7 @@ way_start {τ} {links} {slots} {parts} {p} {k} {f} e a = record {
   paired = a.paired;
 }
 
-module _ {τ : Cell} {links : List ℕ} {slots : List (List ℕ)} {parts₀ parts : List ℕ} {p e : ℕ} {f : Hanging} {j left : ℕ} (w : Way τ links slots parts₀ parts p e f j left) where
+module _ {τ : Cell} {links : List ℕ} {slots : List Slot} {parts₀ parts : List ℕ} {p e : ℕ} {f : Hanging} {j left : ℕ} (w : Way τ links slots parts₀ parts p e f j left) where
   pub way_out : j ≡ 0 → Out τ parts₀ parts p e f
   way_out q = record { long = w.long; dealt = dealing_end τ (λ j. On j f) w.dealing (runs_none w.runs q); kept = w.dealing.kept }
 
@@ -98,7 +99,7 @@ module _ {τ : Cell} {links : List ℕ} {slots : List (List ℕ)} {parts₀ part
         takes_1_not τ (suc u.M) (zero_at slots p (next_at links j)) (one_at slots p (next_at links j)) u.m u.a u.b _ _ u.own (λ q. omega arith) next_pair (omega (arith, own w.runs ne))
 
 -- ---- each turn of the loop
-module _ {τ : Cell} {links : List ℕ} {slots : List (List ℕ)} {parts : List ℕ} {p k : ℕ} {f : Hanging} (a : Asks τ links slots parts p k f) {j : ℕ} (w : Way τ links slots parts parts p 1 f j 1) (ne : j ≡ 0 → ⊥) where
+module _ {τ : Cell} {links : List ℕ} {slots : List Slot} {parts : List ℕ} {p k : ℕ} {f : Hanging} (a : Asks τ links slots parts p k f) {j : ℕ} (w : Way τ links slots parts parts p 1 f j 1) (ne : j ≡ 0 → ⊥) where
   none_yet : part_at parts j ≡ 0
   none_yet = a.clear j (subst (λ (i : ℕ). On i f) (is_first w.runs ne) (each_first (λ i. On i f) w.x (more w.runs ne) w.dealing.ours))
 

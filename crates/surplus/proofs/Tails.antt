@@ -8,6 +8,7 @@ use Rattle.rules.specs.Figures.{most_places, most_children}
 use Rattle.rules.specs.Tree.{Hanging, none, sink, branch}
 use Rattle.frontier.specs.Cell.{Cell}
 use Rattle.frontier.specs.Frontier.{has, Acc, fail, all, acc, width}
+use Rattle.surplus.specs.declared.Slot.{Slot}
 use Rattle.surplus.specs.Rows.{load_at, Mixed, SmallAcc, RowIs}
 use Rattle.surplus.specs.Wires.{Alive, More, first, rest, tip, Ordered, Each}
 use Rattle.surplus.specs.Pairs.{PairOf, NearOf}
@@ -50,7 +51,7 @@ rows_row τ t p m f r =
     let e : 2 * m ≡ m * 2 = omega arith in
     subst (λ (k : ℕ). RowIs (load_at t (m * m) k) (acc τ f p)) e (subst (λ (k : ℕ). RowIs (load_at t (k * k) (2 * k)) (acc τ f p)) r.wide (spread_row τ t p f r.spread))
 
-module _ {τ : Cell} {links : List ℕ} {slots : List (List ℕ)} {p k : ℕ} {f : Hanging} (a : Runs τ links slots p k f) where
+module _ {τ : Cell} {links : List ℕ} {slots : List Slot} {p k : ℕ} {f : Hanging} (a : Runs τ links slots p k f) where
   pub runs_low : k < most_places
   runs_low = go f a.chain a.low
     where
@@ -151,13 +152,13 @@ slot_alive : (c x y : ℕ) (z : Acc) → PairOf c x y z → (c ≡ 0 → ⊥) �
 slot_alive c x y fail q ne = ne q
 slot_alive c x y (all m g) q ne = tt
 
-module _ {τ : Cell} {links : List ℕ} {slots : List (List ℕ)} {sums : List ℕ} {p k : ℕ} {f : Hanging} (a : AsksClose τ links slots sums p k f) where
-  pub close_dead : count_at sums p k ≡ 0 → ClosedIs τ p f 0 0 0
-  close_dead z = near_dead τ (2 * width f) (count_at sums p k) (zero_at slots p k) (one_at slots p k) 0 0 (acc τ f p) a.slot z
+module _ {τ : Cell} {links : List ℕ} {slots : List Slot} {p k : ℕ} {f : Hanging} (a : AsksClose τ links slots p k f) where
+  pub close_dead : count_at slots p k ≡ 0 → ClosedIs τ p f 0 0 0
+  close_dead z = near_dead τ (2 * width f) (count_at slots p k) (zero_at slots p k) (one_at slots p k) 0 0 (acc τ f p) a.slot z
 
-  module _ (ne : count_at sums p k ≡ 0 → ⊥) where
+  module _ (ne : count_at slots p k ≡ 0 → ⊥) where
     pub close_fits : zero_at slots p k ≤ τ.cu → ClosedIs τ p f (zero_at slots p k) (min (zero_at slots p k) (one_at slots p k)) 1
-    close_fits h = near_fits τ (2 * width f) (count_at sums p k) (zero_at slots p k) (one_at slots p k) (acc τ f p) a.slot ne h
+    close_fits h = near_fits τ (2 * width f) (count_at slots p k) (zero_at slots p k) (one_at slots p k) (acc τ f p) a.slot ne h
 
     pub close_runs : Runs τ links slots p k f
-    close_runs = a.runs (slot_alive (count_at sums p k) (zero_at slots p k) (one_at slots p k) (acc τ f p) a.slot ne)
+    close_runs = a.runs (slot_alive (count_at slots p k) (zero_at slots p k) (one_at slots p k) (acc τ f p) a.slot ne)

@@ -4,6 +4,7 @@ use Rattle.rules.specs.Figures.{most_places, most_children}
 use Rattle.rules.specs.Tree.{Hanging, none, sink, branch}
 use Rattle.frontier.specs.Cell.{Cell}
 use Rattle.frontier.specs.Frontier.{State, lost, has, Acc, fail, all, acc, width}
+use Rattle.surplus.specs.declared.Slot.{Slot}
 use Rattle.surplus.specs.Rows.{load_at, SmallAcc, RowIs, Spread}
 use Rattle.surplus.specs.Wires.{tip, Ordered, Each, On, Alive}
 use Rattle.surplus.specs.Pairs.{NearOf}
@@ -22,7 +23,7 @@ Smalls τ p (sink i w c s r) = SmallTip (tip τ p (sink i w c s r)) × SmallAcc 
 Smalls τ p (branch i w f r) = SmallTip (tip τ p (branch i w f r)) × SmallAcc (acc τ r p) × Smalls τ p r
 
 -- the chain from k on is that of the wires f, within the tables
-pub record Runs (τ : Cell) (links : List ℕ) (slots : List (List ℕ)) (p k : ℕ) (f : Hanging) : Type 0 where
+pub record Runs (τ : Cell) (links : List ℕ) (slots : List Slot) (p k : ℕ) (f : Hanging) : Type 0 where
   pub chain : Chain τ (next_at links) (lo_at slots p) (hi_at slots p) p k f
   pub live : Alive (acc τ f p)
   pub order : Ordered 1 f
@@ -30,7 +31,7 @@ pub record Runs (τ : Cell) (links : List ℕ) (slots : List (List ℕ)) (p k : 
   pub smalls : Smalls τ p f
   pub few : width f ≤ most_children
 
-pub record Running (τ : Cell) (links : List ℕ) (slots : List (List ℕ)) (p k : ℕ) : Type 0 where
+pub record Running (τ : Cell) (links : List ℕ) (slots : List Slot) (p k : ℕ) : Type 0 where
   pub f : Hanging
   pub runs : Runs τ links slots p k f
 
@@ -48,22 +49,22 @@ abbrev pub ClosedIs : Cell → ℕ → Hanging → ℕ → ℕ → ℕ → Type 
 ClosedIs τ p f h h₁ o = NearOf τ (2 * width f) (acc τ f p) h h₁ o
 
 -- the slot k is of the wires f, which are its chain where each has a state
-pub record AsksClose (τ : Cell) (links : List ℕ) (slots : List (List ℕ)) (sums : List ℕ) (p k : ℕ) (f : Hanging) : Type 0 where
-  pub slot : SlotIs slots sums p k (acc τ f p)
+pub record AsksClose (τ : Cell) (links : List ℕ) (slots : List Slot) (p k : ℕ) (f : Hanging) : Type 0 where
+  pub slot : SlotIs slots p k (acc τ f p)
   pub runs : Alive (acc τ f p) → Runs τ links slots p k f
 
-pub record AskedClose (τ : Cell) (links : List ℕ) (slots : List (List ℕ)) (sums : List ℕ) (p k : ℕ) : Type 0 where
+pub record AskedClose (τ : Cell) (links : List ℕ) (slots : List Slot) (p k : ℕ) : Type 0 where
   pub f : Hanging
-  pub asks : AsksClose τ links slots sums p k f
+  pub asks : AsksClose τ links slots p k f
 
 -- ---- the dealing
 -- the slot k has the loads of z for a surplus of 0 and of 1
-abbrev pub PairIs : List (List ℕ) → ℕ → ℕ → Acc → Type 0
+abbrev pub PairIs : List Slot → ℕ → ℕ → Acc → Type 0
 PairIs slots p k fail = ⊥
 PairIs slots p k (all m g) = (zero_at slots p k ≡ g 0) × (one_at slots p k ≡ g 1)
 
 -- and so each slot of the chain, and 0 at its end
-abbrev pub Paired : Cell → List ℕ → List (List ℕ) → ℕ → ℕ → Hanging → Type 0
+abbrev pub Paired : Cell → List ℕ → List Slot → ℕ → ℕ → Hanging → Type 0
 Paired τ links slots p k none = PairIs slots p k (acc τ none p)
 Paired τ links slots p k (sink i w c s r) = PairIs slots p k (acc τ (sink i w c s r) p) × Paired τ links slots p (next_at links i) r
 Paired τ links slots p k (branch i w f r) = PairIs slots p k (acc τ (branch i w f r) p) × Paired τ links slots p (next_at links i) r
@@ -72,13 +73,13 @@ abbrev pub part_at : List ℕ → ℕ → ℕ
 part_at parts j = get_or parts j 0
 
 -- the wires f, along the chain from k on, have no parts yet
-pub record Asks (τ : Cell) (links : List ℕ) (slots : List (List ℕ)) (parts : List ℕ) (p k : ℕ) (f : Hanging) : Type 0 where
+pub record Asks (τ : Cell) (links : List ℕ) (slots : List Slot) (parts : List ℕ) (p k : ℕ) (f : Hanging) : Type 0 where
   pub long : length parts ≡ most_places
   pub runs : Runs τ links slots p k f
   pub paired : Paired τ links slots p k f
   pub clear : (j : ℕ) → On j f → part_at parts j ≡ 0
 
-pub record Asked (τ : Cell) (links : List ℕ) (slots : List (List ℕ)) (parts : List ℕ) (p k : ℕ) : Type 0 where
+pub record Asked (τ : Cell) (links : List ℕ) (slots : List Slot) (parts : List ℕ) (p k : ℕ) : Type 0 where
   pub f : Hanging
   pub asks : Asks τ links slots parts p k f
 
@@ -94,19 +95,19 @@ to_end zero = 0
 to_end (suc j) = most_places - j
 
 -- wire j hands up less with one more by more than the wires after it, which have the slot k
-abbrev pub Gains : List (List ℕ) → ℕ → ℕ → ℕ → Bool → Type 0
+abbrev pub Gains : List Slot → ℕ → ℕ → ℕ → Bool → Type 0
 Gains slots p j k true = hi_at slots p j + zero_at slots p k < lo_at slots p j + one_at slots p k
 Gains slots p j k false = lo_at slots p j + one_at slots p k ≤ hi_at slots p j + zero_at slots p k
 
 -- what wire j takes of e, where the row of the m wires after it stands at the square of m
-abbrev pub PartIs : Cell → List ℕ → List (List ℕ) → ℕ → ℕ → ℕ → ℕ → ℕ → Type 0
+abbrev pub PartIs : Cell → List ℕ → List Slot → ℕ → ℕ → ℕ → ℕ → ℕ → Type 0
 PartIs τ rows slots p j m e s = Shared (load_at rows (m * m) (m * 2)) e (lo_at slots p j) (hi_at slots p j) (min (lo_at slots p j) τ.cb) s
 
 -- and the rows of the n wires stand in `rows`
-pub record AsksMore (τ : Cell) (rows links : List ℕ) (slots : List (List ℕ)) (parts : List ℕ) (p k n : ℕ) (f : Hanging) : Type 0 where
+pub record AsksMore (τ : Cell) (rows links : List ℕ) (slots : List Slot) (parts : List ℕ) (p k n : ℕ) (f : Hanging) : Type 0 where
   pub asks : Asks τ links slots parts p k f
   pub made : Rows τ rows p n f
 
-pub record AskedMore (τ : Cell) (rows links : List ℕ) (slots : List (List ℕ)) (parts : List ℕ) (p k n : ℕ) : Type 0 where
+pub record AskedMore (τ : Cell) (rows links : List ℕ) (slots : List Slot) (parts : List ℕ) (p k n : ℕ) : Type 0 where
   pub f : Hanging
   pub asks : AsksMore τ rows links slots parts p k n f

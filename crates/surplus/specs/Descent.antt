@@ -10,12 +10,13 @@ use Rattle.frontier.specs.Frontier.{State, lost, has, acc, close, width}
 use Rattle.frontier.specs.Cert.{Table}
 use Rattle.frontier.specs.Placed.{placed}
 use Rattle.columns.specs.Columns.{Holds}
+use Rattle.surplus.specs.declared.Slot.{Slot}
+use Rattle.surplus.specs.declared.Closed.{Closed}
 use Rattle.surplus.specs.Wires.{Alive, node_at}
-use Rattle.surplus.specs.Pairs.{near_state}
 use Rattle.surplus.specs.Dealt.{f3, Dealt}
 use Rattle.surplus.specs.Choice.{Aim, Budgeted, offsets}
 use Rattle.surplus.specs.Walk.{WireOk, Parts}
-use Rattle.surplus.specs.Tables.{field, count_at, NearIs, WiresJoined, NodesClosed}
+use Rattle.surplus.specs.Tables.{near_of, state_of, count_at, NearIs, WiresJoined, NodesClosed}
 use Rattle.surplus.specs.Asks.{part_at}
 
 -- no inverter is needed over s
@@ -24,7 +25,7 @@ Stays lost w m l = ⊥
 Stays (has n a b) w m l = (n ≤ m) × (w + a ≤ l)
 
 -- wire i, of size w, is to be cut under a point of polarity p, with the part s of its surplus
-pub record Cutting (τ : Cell) (n : Net) (w : ℕ) (links : List ℕ) (slots : List (List ℕ)) (sums : List ℕ) (near : List (List ℕ)) (p s i : ℕ) : Type 0 where
+pub record Cutting (τ : Cell) (n : Net) (w : ℕ) (links : List ℕ) (slots : List Slot) (near : List Closed) (p s i : ℕ) : Type 0 where
   pub kind : τ.kind ≡ inv
   pub sound : SoundNet n
   pub lo : 1 ≤ i
@@ -32,12 +33,12 @@ pub record Cutting (τ : Cell) (n : Net) (w : ℕ) (links : List ℕ) (slots : L
   pub size : w ≡ wire n i
   pub low : p ≤ 1
   pub few : s ≤ 2
-  pub joined : WiresJoined τ n links slots sums 1
+  pub joined : WiresJoined τ n links slots 1
   pub closed : NodesClosed τ n near 0
   pub parts : Parts τ n p i
 
 -- and the part asks it to meet the count m and the load l, with k more at its upper end; its node's wires have the slot h
-pub record Targeted (τ : Cell) (n : Net) (w : ℕ) (sums : List ℕ) (near : List (List ℕ)) (p s h i m l k : ℕ) : Type 0 where
+pub record Targeted (τ : Cell) (n : Net) (w : ℕ) (slots : List Slot) (near : List Closed) (p s h i m l k : ℕ) : Type 0 where
   pub kind : τ.kind ≡ inv
   pub sound : SoundNet n
   pub here : i < places n
@@ -46,8 +47,8 @@ pub record Targeted (τ : Cell) (n : Net) (w : ℕ) (sums : List ℕ) (near : Li
   pub slot : h < most_places
   pub parts : Parts τ n p i
   pub aim : Aim τ s parts.m parts.a parts.b m l k
-  pub counts : (q : ℕ) → q ≤ 1 → count_at sums q h ≤ 100000000001
-  pub node : (q : ℕ) → q ≤ 1 → node_at τ n i q ≡ near_state (count_at sums q h) (field near q i 0) (field near q i 1) (field near q i 2)
+  pub counts : (q : ℕ) → q ≤ 1 → count_at slots q h ≤ 100000000001
+  pub node : (q : ℕ) → q ≤ 1 → node_at τ n i q ≡ state_of (count_at slots q h) (near_of near q i)
   pub kept : (q : ℕ) → q ≤ 1 → NearIs τ n near q i
 
 -- wire i is cut well: its node has the polarity q and the surplus e, and r inverters stand on it by spacing over a load f, k at its upper end

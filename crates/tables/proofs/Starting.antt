@@ -1,4 +1,4 @@
--- Tables of zeros, where only no wire has a count: nothing is joined and nothing is closed.
+-- Blank tables, where only no wire has a count: nothing is joined and nothing is closed.
 use Prim.Native.Nat.{ℕ, zero, suc, ◌+◌, ◌*◌, ◌≤◌}
 use mathlib.Core.Path.{◌≡◌, refl}
 use mathlib.Core.List.{List}
@@ -8,7 +8,9 @@ use Rattle.rules.specs.Figures.{most_places}
 use Rattle.rules.specs.Net.{Net, places}
 use Rattle.rules.specs.Sound.{SoundNet}
 use Rattle.frontier.specs.Cell as model
-use Rattle.surplus.specs.Tables.{field, count_at, Filled}
+use Rattle.surplus.specs.declared.Slot.{Slot}
+use Rattle.surplus.specs.declared.Closed.{Closed}
+use Rattle.surplus.specs.Tables.{no_slot, not_closed, count_at, zero_at, one_at, Filled}
 use Rattle.surplus.proofs.Filling.{joined_none, closed_none}
 
 -- a table of zeros holds 0 everywhere
@@ -17,16 +19,16 @@ get_or-zeros zero j = refl
 get_or-zeros (suc k) zero = refl
 get_or-zeros (suc k) (suc j) = get_or-zeros k j
 
-pub filled_none : (τ : model.Cell) {n : Net} → SoundNet n
-    → Filled τ n (replicate (most_places * 2) 0) (replicate (most_places * 2) (replicate 4 0)) (set (set (replicate (most_places * 2) 0) 0 1) 1 1) (replicate (most_places * 2) (replicate 3 0)) (places n)
+abbrev counted : List Slot
+counted = let x : Slot = record no_slot { count = 1 } in set (set (replicate (most_places * 2) no_slot) 0 x) 1 x
+
+pub filled_none : (τ : model.Cell) {n : Net} → SoundNet n → Filled τ n (replicate (most_places * 2) 0) counted (replicate (most_places * 2) not_closed) (places n)
 filled_none τ {n} sound = record {
-  joined = joined_none τ sound (replicate (most_places * 2) 0) (replicate (most_places * 2) (replicate 4 0)) (set (set (replicate (most_places * 2) 0) 0 1) 1 1) (length-replicate {A = ℕ} (most_places * 2) 0)
-      (length-replicate {A = List ℕ} (most_places * 2) (replicate 4 0)) (simp length-set (length-replicate {A = ℕ} (most_places * 2) 0)) (λ v. get_or-zeros (most_places * 2) (v * 2 + 1)) end;
-  closed = closed_none τ (replicate (most_places * 2) (replicate 3 0)) (length-replicate {A = List ℕ} (most_places * 2) (replicate 3 0));
+  joined = joined_none τ sound (replicate (most_places * 2) 0) counted (length-replicate {A = ℕ} (most_places * 2) 0) (simp length-set (length-replicate {A = Slot} (most_places * 2) no_slot)) (λ v. get_or-zeros (most_places * 2) (v * 2 + 1)) end;
+  closed = closed_none τ (replicate (most_places * 2) not_closed) (length-replicate {A = Closed} (most_places * 2) not_closed);
 }
   where
-    end : (p : ℕ) → p ≤ 1 → (count_at (set (set (replicate (most_places * 2) 0) 0 1) 1 1) p 0 ≡ 1) × (field (replicate (most_places * 2) (replicate 4 0)) p 0 2 ≡ 0) × (field (replicate (most_places * 2) (replicate 4 0)) p 0 3 ≡ 0)
+    end : (p : ℕ) → p ≤ 1 → (count_at counted p 0 ≡ 1) × (zero_at counted p 0 ≡ 0) × (one_at counted p 0 ≡ 0)
     end zero l = (refl, refl, refl)
     end (suc zero) l = (refl, refl, refl)
     end (suc (suc p)) l = absurd (omega arith)
-

@@ -13,6 +13,8 @@ use Rattle.frontier.specs.Cell as model
 use Rattle.states.specs.declared.Cell.{Cell}
 use Rattle.states.specs.States.{model_of, CellOk}
 use Rattle.columns.proofs.Listing.{wires_long, offsets_long}
+use Rattle.surplus.specs.declared.Slot.{Slot}
+use Rattle.surplus.specs.declared.Closed.{Closed}
 use Rattle.surplus.specs.Choice.{offsets}
 use Rattle.surplus.specs.Tables.{head_at, WiresJoined, NodesClosed}
 use Rattle.surplus.specs.Asks.{part_at, Asks, Out}
@@ -22,10 +24,10 @@ use Rattle.surplus.proofs.Meeting.{asks_under}
 use Rattle.surplus.proofs.Filling.{own_first}
 use Rattle.surplus.proofs.Descending.{sense_at, Descent, lower, sense_low, part_few, own_parts, parts_clear, room, descent_on, dealt_none, dealt_kept}
 
-module _ {c : Cell} (ok : CellOk c) (one : c.repeater ≡ 1) {n : Net} (sound : SoundNet n) {links : List ℕ} {slots : List (List ℕ)} {sums : List ℕ} {near : List (List ℕ)}
-    (w : WiresJoined (model_of c) n links slots sums 1) (cl : NodesClosed (model_of c) n near 0)
+module _ {c : Cell} (ok : CellOk c) (one : c.repeater ≡ 1) {n : Net} (sound : SoundNet n) {links : List ℕ} {slots : List Slot} {near : List Closed}
+    (w : WiresJoined (model_of c) n links slots 1) (cl : NodesClosed (model_of c) n near 0)
     {senses₀ : List ℕ} {e₀ N : ℕ} {ws₀ os₀ senses parts ws os : List ℕ} {i at : ℕ} (d : Descent (model_of c) n senses₀ e₀ N ws₀ os₀ senses parts ws os i at) (h : i < places n) where
-  unfoldable pub cuts : {u : ℕ} → u ≡ wire n i → Cutting (model_of c) n u links slots sums near (sense_at senses (parent n i)) (part_at parts i) i
+  unfoldable pub cuts : {u : ℕ} → u ≡ wire n i → Cutting (model_of c) n u links slots near (sense_at senses (parent n i)) (part_at parts i) i
   cuts e = record {
     kind = ap model.kind_of one;
     sound = sound;

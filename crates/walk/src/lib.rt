@@ -10,7 +10,7 @@ ghost use Rattle.rules.specs.Sound.{SoundNet};
 ghost use Rattle.states.specs.States.{model_of, st, Small};
 ghost use Rattle.surplus.specs.Choice.{Owes};
 ghost use Rattle.surplus.specs.Choice;
-ghost use Rattle.surplus.specs.Tables.{head_at, field, WiresJoined, NodesClosed};
+ghost use Rattle.surplus.specs.Tables.{head_at, near_of, WiresJoined, NodesClosed};
 ghost use Rattle.surplus.specs.Descent.{Cutting, Targeted, Decided, Begun, Written};
 ghost use Rattle.surplus.specs.Asks.{Asked};
 ghost use Rattle.walk.specs.Steps.{StaysIf, Handed};
@@ -34,11 +34,11 @@ pub struct Cut {
 
 // The surplus of node i where its load is taken with x more: one more than its least surplus where that lowers the load.
 fn owed(tables: &Tables, q: usize, i: usize, x: u64) -> usize
-    requires { (q ≤ 1) × (i < most_places) × (1 ≤ field tables.now.near q i 2) }
-    ensures { Owes x (field tables.now.near q i 0) (field tables.now.near q i 1) (field tables.now.near q i 2 - 1) result }
+    requires { (q ≤ 1) × (i < most_places) × (1 ≤ (near_of tables.now.near q i).over) }
+    ensures { Owes x (near_of tables.now.near q i).load (near_of tables.now.near q i).more ((near_of tables.now.near q i).over - 1) result }
 {
-    let [load, more, _] = tables.near[i * 2 + q];
-    tables.surplus(q, i) + usize::from(x != 0 && more < load)
+    let closed = tables.near[i * 2 + q];
+    tables.surplus(q, i) + usize::from(x != 0 && closed.more < closed.load)
 }
 
 // Whether a wire of size w meets the count m and the load l without inverters, over a node's state.
@@ -55,8 +55,8 @@ fn stays(node: Option<State>, w: u64, m: u64, l: u64) -> bool
 // The cut of wire i, of size w under a point of polarity p, that has to meet the goal. Its node's wires have the slot h.
 fn cut_over(c: Cell, w: u64, tables: &Tables, p: usize, h: usize, i: usize, goal: Target) -> Cut
     requires wire_bound { w ≤ most_wire }
-    requires by_index { (n : Net) × (s : ℕ) × Targeted (model_of c) n w tables.now.chains.sums tables.now.near p s h i goal.count goal.load goal.extra }
-    ensures { (n : Net) (s : ℕ) (t : Targeted (model_of c) n w tables.now.chains.sums tables.now.near p s h i goal.count goal.load goal.extra) → Decided (model_of c) n p s i t.parts result.sense result.left result.below result.spaced result.topped }
+    requires by_index { (n : Net) × (s : ℕ) × Targeted (model_of c) n w tables.now.chains.slots tables.now.near p s h i goal.count goal.load goal.extra }
+    ensures { (n : Net) (s : ℕ) (t : Targeted (model_of c) n w tables.now.chains.slots tables.now.near p s h i goal.count goal.load goal.extra) → Decided (model_of c) n p s i t.parts result.sense result.left result.below result.spaced result.topped }
 {
     let same = tables.side(p, h, i);
     let other = tables.side(1 - p, h, i);
@@ -76,14 +76,15 @@ fn cut_over(c: Cell, w: u64, tables: &Tables, p: usize, h: usize, i: usize, goal
 // The cut of wire i, of size w under a point of polarity p, that takes s of the surplus there.
 fn cut_wire(c: Cell, w: u64, tables: &Tables, p: usize, s: usize, i: usize) -> Cut
     requires wire_bound { w ≤ most_wire }
-    requires cutting { (n : Net) × Cutting (model_of c) n w tables.now.chains.links tables.now.chains.slots tables.now.chains.sums tables.now.near p s i }
-    ensures { (n : Net) (t : Cutting (model_of c) n w tables.now.chains.links tables.now.chains.slots tables.now.chains.sums tables.now.near p s i) → Decided (model_of c) n p s i t.parts result.sense result.left result.below result.spaced result.topped }
+    requires cutting { (n : Net) × Cutting (model_of c) n w tables.now.chains.links tables.now.chains.slots tables.now.near p s i }
+    ensures { (n : Net) (t : Cutting (model_of c) n w tables.now.chains.links tables.now.chains.slots tables.now.near p s i) → Decided (model_of c) n p s i t.parts result.sense result.left result.below result.spaced result.topped }
 {
     let chains = &tables.chains;
     let h = chains.head(i);
-    let m = chains.sums[i * 2 + p] - chains.sums[chains.next(i) * 2 + p];
-    let [least, more, _, _] = chains.slots[i * 2 + p];
-    if s == 0 && stays(tables.side(p, h, i), w, m, least as u64) {
+    let own = chains.slots[i * 2 + p];
+    let load = own.load as u64;
+    let m = own.count - chains.slots[chains.next(i) * 2 + p].count;
+    if s == 0 && stays(tables.side(p, h, i), w, m, load) {
         return Cut {
             sense: p,
             left: owed(tables, p, i, 0),
@@ -92,7 +93,7 @@ fn cut_wire(c: Cell, w: u64, tables: &Tables, p: usize, s: usize, i: usize) -> C
             topped: 0,
         };
     }
-    let goal = cuts::aim(c, s, m, least as u64, more as u64);
+    let goal = cuts::aim(c, s, m, load, own.more as u64);
     cut_over(c, w, tables, p, h, i, goal)
 }
 
@@ -159,7 +160,7 @@ pub fn descend(
     offsets: &mut [u32],
 )
     requires sound { (c.repeater ≡ 1) × SoundNet (net_of net.now) }
-    requires wires_joined { WiresJoined (model_of c) (net_of net.now) tables.now.chains.links tables.now.chains.slots tables.now.chains.sums 1 × NodesClosed (model_of c) (net_of net.now) tables.now.near 0 }
+    requires wires_joined { WiresJoined (model_of c) (net_of net.now) tables.now.chains.links tables.now.chains.slots 1 × NodesClosed (model_of c) (net_of net.now) tables.now.near 0 }
     requires by_index { (N : ℕ) × Begun (model_of c) (net_of net.now) senses.old parts.old N wires.old offsets.old }
     ensures { (N : ℕ) → Begun (model_of c) (net_of net.now) senses.old parts.old N wires.old offsets.old → Written (model_of c) (net_of net.now) senses.old N wires.old offsets.old wires.new offsets.new }
 {

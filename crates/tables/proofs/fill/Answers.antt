@@ -5,12 +5,14 @@ use mathlib.Core.Path.{◌≡◌, subst}
 use mathlib.Core.List.{List}
 use Rattle.rules.specs.Net.{Net}
 use Rattle.frontier.specs.Cell.{Cell}
+use Rattle.surplus.specs.declared.Slot.{Slot}
+use Rattle.surplus.specs.declared.Closed.{Closed}
 use Rattle.surplus.specs.Tables.{Filled}
 use Rattle.tables.proofs.fill.Goals as goal
 
 -- a turn begins with the wires after its own, and the last leaves those from 1 on
-filled_at : {τ : Cell} {n : Net} {links : List ℕ} {slots : List (List ℕ)} {sums : List ℕ} {near : List (List ℕ)} {i : ℕ} (j : ℕ) → i ≡ j → Filled τ n links slots sums near i → Filled τ n links slots sums near j
-filled_at {τ} {n} {links} {slots} {sums} {near} j e f = subst (Filled τ n links slots sums near) e f
+filled_at : {τ : Cell} {n : Net} {links : List ℕ} {slots : List Slot} {near : List Closed} {i : ℕ} (j : ℕ) → i ≡ j → Filled τ n links slots near i → Filled τ n links slots near j
+filled_at {τ} {n} {links} {slots} {near} j e f = subst (Filled τ n links slots near) e f
 
 pub loop-i-init : goal.loop-i-init
 loop-i-init c = (c.requires.sound.1.some, c.requires.filled)

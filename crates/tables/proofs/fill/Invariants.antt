@@ -6,4 +6,4 @@ use Rattle.surplus.specs.Tables.{Filled}
 use Rattle.tables.proofs.fill.Given as goal
 
 abbrev pub invariant-loop-i : goal.invariant-loop-i
-invariant-loop-i l = (1 ≤ l.i) × Filled (model_of l.c) (net_of l.net) l.tables.chains.links l.tables.chains.slots l.tables.chains.sums l.tables.near l.i
+invariant-loop-i l = (1 ≤ l.i) × Filled (model_of l.c) (net_of l.net) l.tables.chains.links l.tables.chains.slots l.tables.near l.i

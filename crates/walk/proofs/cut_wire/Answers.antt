@@ -20,7 +20,7 @@ pub returns-then-stays : goal.returns-then-stays
 returns-then-stays c =
     λ n t.
     let ok = ok_of c.args.c in
-    let e = ap (λ (j : ℕ). count_at c.args.tables.now.chains.sums c.args.p c.args.i - count_at c.args.tables.now.chains.sums c.args.p j) c.next.ensures ∙ (counts ok t).1 in
+    let e = ap (λ (j : ℕ). count_at c.args.tables.now.chains.slots c.args.p c.args.i - count_at c.args.tables.now.chains.slots c.args.p j) c.next.ensures ∙ (counts ok t).1 in
     decided_bare ok t c.head-h.ensures e (loads ok t).0 c.if-s-eq0.true c.side.ensures c.if-stays.ensures _ c.owed.ensures
 
 pub aim-goal-requires : goal.aim-goal-requires
@@ -30,7 +30,7 @@ pub cut_over-requires-clause-by_index : goal.cut_over-requires-clause-by_index
 cut_over-requires-clause-by_index c =
     let ok = ok_of c.args.c in
     let (n, t) = c.requires.cutting in
-    let e = ap (λ (j : ℕ). count_at c.args.tables.now.chains.sums c.args.p c.args.i - count_at c.args.tables.now.chains.sums c.args.p j) c.next.ensures ∙ (counts ok t).1 in
+    let e = ap (λ (j : ℕ). count_at c.args.tables.now.chains.slots c.args.p c.args.i - count_at c.args.tables.now.chains.slots c.args.p j) c.next.ensures ∙ (counts ok t).1 in
     (n, c.args.s, targeted ok t c.head-h.ensures (aims ok t e (loads ok t).0 (loads ok t).1 c.aim-goal.ensures))
 
 pub returns : goal.returns
@@ -38,5 +38,5 @@ unfolding targeted
 returns c =
     λ n t.
     let ok = ok_of c.args.c in
-    let e = ap (λ (j : ℕ). count_at c.args.tables.now.chains.sums c.args.p c.args.i - count_at c.args.tables.now.chains.sums c.args.p j) c.next.ensures ∙ (counts ok t).1 in
+    let e = ap (λ (j : ℕ). count_at c.args.tables.now.chains.slots c.args.p c.args.i - count_at c.args.tables.now.chains.slots c.args.p j) c.next.ensures ∙ (counts ok t).1 in
     c.cut_over.ensures n c.args.s (targeted ok t c.head-h.ensures (aims ok t e (loads ok t).0 (loads ok t).1 c.aim-goal.ensures))
