@@ -1,11 +1,10 @@
 -- The column of cut offsets, place by place: it is filled from the front, and what is not filled yet is as it came.
-use Prim.Native.Nat.{ℕ, zero, suc, ◌+◌, ◌≤◌, ◌<◌, min}
+use Prim.Native.Nat.{ℕ, zero, suc, ◌≤◌, ◌<◌, min}
 use mathlib.Core.Path.{◌≡◌, refl, sym, ap, ◌∙◌}
 use mathlib.Core.List.{List, [], ◌∷◌}
 use native.Mathlib.Omega.{arith}
-use borrow.Author.Count.{below_more}
-use lib.ListN.{length, get_or, set, length-set}
-use lib.Seq.{ext_get_or, get_or-set_same, get_or-set_other}
+use lib.ListN.{length, get_or}
+use lib.Seq.{ext_get_or}
 use Rattle.rules.specs.declared.Entry.{Entry}
 use Rattle.rules.specs.Net.{Net, wire}
 use Rattle.rules.specs.Load.{entries}
@@ -43,19 +42,7 @@ pub record Cutting (ws vs before : List ℕ) (k : ℕ) (out : List ℕ) : Type 0
   pub done : (j : ℕ) → j < k → get_or out j 0 ≡ min (get_or before j 0) (get_or ws (get_or vs j 0) 0)
   pub others : (j : ℕ) → k ≤ j → get_or out j 0 ≡ get_or before j 0
 
-pub cutting_none : {ws vs before : List ℕ} → Cutting ws vs before 0 before
-cutting_none = record { long = refl; done = λ j h. absurd (omega arith); others = λ j h. refl }
-
 module _ {ws vs before out : List ℕ} {k : ℕ} (c : Cutting ws vs before k out) where
-  pub cutting_more : k < length before → (x : ℕ) → x ≡ min (get_or out k 0) (get_or ws (get_or vs k 0) 0) → Cutting ws vs before (k + 1) (set out k x)
-  cutting_more h x e = record {
-    long = simp length-set c.long;
-    done = below_more _ k
-        (λ j l. get_or-set_other out k j x 0 (λ q. omega arith) ∙ c.done j l)
-        (get_or-set_same out k x 0 (omega (arith, c.long)) ∙ e ∙ ap (λ (o : ℕ). min o (get_or ws (get_or vs k 0) 0)) (c.others k (omega arith)));
-    others = λ j l. get_or-set_other out k j x 0 (λ q. omega arith) ∙ c.others j (omega arith);
-  }
-
   pub cutting_all : length before ≡ length vs → length vs ≤ k → (m : Net) → m.wires ≡ ws → out ≡ offsets_of (carried m (entries vs before))
   cutting_all e h m w = ext_get_or 0 out (cut_column m vs before) (c.long ∙ sym (cut_length m vs before e))
       (λ j l. c.done j (omega (arith, c.long)) ∙ rw (← w) (sym (cut_at m vs before j e (omega (arith, c.long)))))

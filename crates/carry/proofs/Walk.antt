@@ -9,14 +9,11 @@ use Rattle.rules.specs.declared.Refusal.TheVariants.{NotEased}
 use Rattle.rules.specs.Net.{Net, places, node}
 use Rattle.rules.specs.Judge.{unless}
 use Rattle.rules.specs.Ease.{node_eases, nodes_ease}
-use Rattle.rules.proofs.Each.{Going, going_start, going_stop, going_next, going_end}
+use Rattle.rules.proofs.Each.{Going, going_stop, going_next, going_end}
 
 -- the loop has come to node i
 pub record Easing (n m : Net) (i : ℕ) : Type 0 where
   pub going : Going (λ j. unless (node_eases (node n j) (node m j)) (NotEased j)) (places n - 1) 1 i
-
-pub easing_start : {n m : Net} → Easing n m 1
-easing_start {n} {m} = record { going = going_start (λ j. unless (node_eases (node n j) (node m j)) (NotEased j)) (places n - 1) 1 }
 
 module _ {n m : Net} {i : ℕ} (g : Easing n m i) where
   module _ (h : i < places n) (a b : Node) (ea : a ≡ node n i) (eb : b ≡ node m i) (z : Bool) (ez : z ≡ node_eases a b) where

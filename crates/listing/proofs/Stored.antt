@@ -1,20 +1,17 @@
 -- A column that is filled from the front, one load a turn.
 use Prim.Native.Nat.{ℕ, ◌≤◌, ◌<◌, ◌+◌}
-use mathlib.Core.Path.{◌≡◌, refl, sym, ap, ◌∙◌}
+use mathlib.Core.Path.{◌≡◌, sym, ap, ◌∙◌}
 use mathlib.Core.List.{List}
 use native.Mathlib.Omega.{arith}
 use native.Mathlib.Numerals.{add-one}
 use native.Mathlib.Nat.{zero-add}
 use lib.ListN.{length, get_or, set, length-set}
-use lib.Seq.{take-length, paste, paste-zero, paste-suc, sets, sets-eq}
+use lib.Seq.{take-length, paste, paste-suc, sets, sets-eq}
 
 -- the first k places hold the first k loads
 pub record Stored (loads before : List ℕ) (k : ℕ) (out : List ℕ) : Type 0 where
   pub long : length out ≡ length before
   pub stored : out ≡ paste before 0 loads k
-
-pub stored_none : {loads before : List ℕ} → Stored loads before 0 before
-stored_none {loads} {before} = record { long = refl; stored = paste-zero before 0 loads }
 
 module _ {loads before out : List ℕ} {k : ℕ} (f : Stored loads before k out) where
   pub stored_more : k < length before → k < length loads → (x : ℕ) → x ≡ get_or loads k 0 → Stored loads before (k + 1) (set out k x)

@@ -7,7 +7,6 @@ use mathlib.Core.List.{List, [], ◌∷◌, ◌++◌}
 use native.Mathlib.Omega.{arith}
 use native.Mathlib.Numerals.{add-one}
 use native.Mathlib.Decide.{ℕ_discrete, dec_lt}
-use borrow.Author.Count.{below_more}
 use borrow.Author.Tests.{eq-eqb, ne_eqb, eqb-true}
 use lib.Dec.{eqb}
 use lib.ListN.{length, get_or, set, length-set, take}
@@ -17,7 +16,7 @@ use Rattle.rules.specs.Choose.{pick}
 use Rattle.rules.specs.Net.{Net, places, wire, kind, pin}
 use Rattle.rules.specs.Load.{entries, offsets_on, hands_up, handed_up, load_below}
 use Rattle.rules.specs.Sound.{SoundNet}
-use Rattle.load.specs.Tables.{Clear, own_part, shut_by, Parts}
+use Rattle.load.specs.Tables.{own_part, shut_by, Parts}
 use Rattle.rules.proofs.Tests.{never}
 use Rattle.load.proofs.Bound.{hands_up_most}
 use Rattle.load.proofs.Scan.{load_sink}
@@ -74,27 +73,6 @@ pub record Bare (ws ks ps own : List ℕ) (shut : List Bool) (i : ℕ) : Type 0 
   pub shut_done : (j : ℕ) → j < i → get_or shut j false ≡ eqb (get_or ks j 0) 1
   pub own_clear : (j : ℕ) → i ≤ j → get_or own j 0 ≡ 0
   pub shut_clear : (j : ℕ) → i ≤ j → get_or shut j false ≡ false
-
-pub bare_none : {ws ks ps own : List ℕ} {shut : List Bool} → Clear 0 own → Clear false shut → Bare ws ks ps own shut 0
-bare_none o s = record {
-  own_long = o.long;
-  shut_long = s.long;
-  own_done = λ j l. absurd (omega arith);
-  shut_done = λ j l. absurd (omega arith);
-  own_clear = λ j l. o.none j;
-  shut_clear = λ j l. s.none j;
-}
-
-pub bare_more : {ws ks ps own : List ℕ} {shut : List Bool} {i : ℕ} → Bare ws ks ps own shut i → i < most_places
-    → (x : ℕ) (z : Bool) → x ≡ pick (eqb (get_or ks i 0) 1) (get_or ws i 0 + get_or ps i 0) (get_or ws i 0) → z ≡ eqb (get_or ks i 0) 1 → Bare ws ks ps (set own i x) (set shut i z) (i + 1)
-bare_more {own} {shut} {i} b h x z ex ez = record {
-  own_long = simp length-set b.own_long;
-  shut_long = simp length-set b.shut_long;
-  own_done = below_more _ i (λ j l. get_or-set_other own i j x 0 (λ e. omega arith) ∙ b.own_done j l) (get_or-set_same own i x 0 (omega (arith, b.own_long)) ∙ ex);
-  shut_done = below_more _ i (λ j l. get_or-set_other shut i j z false (λ e. omega arith) ∙ b.shut_done j l) (get_or-set_same shut i z false (omega (arith, b.shut_long)) ∙ ez);
-  own_clear = λ j l. get_or-set_other own i j x 0 (λ e. omega arith) ∙ b.own_clear j (omega arith);
-  shut_clear = λ j l. get_or-set_other shut i j z false (λ e. omega arith) ∙ b.shut_clear j (omega arith);
-}
 
 module _ {n : Net} {own : List ℕ} {shut : List Bool} {i : ℕ} (b : Bare n.wires n.kinds n.pins own shut i) where
   pub bare_all : SoundNet n → places n ≤ i → Parts n (offsets_on []) own shut

@@ -4,19 +4,16 @@ use mathlib.Core.Path.{◌≡◌, refl, ap, ◌∙◌}
 use mathlib.Core.Bool.{true, false}
 use mathlib.Core.List.{List}
 use native.Mathlib.Omega.{arith}
-use native.Mathlib.Decide.{dec_lt, ℕ_discrete}
-use lib.Dec.{eqb}
-use borrow.Author.Tests.{eq-eqb, ne_eqb}
+use native.Mathlib.Decide.{dec_lt}
 use lib.ListN.{length, get_or}
 use lib.Seq.{slice, length-slice}
 use Rattle.rules.specs.Figures.{most_wire}
-use Rattle.rules.specs.Net.{Net, places, wire}
+use Rattle.rules.specs.Net.{Net, places}
 use Rattle.rules.specs.declared.Entry.{Entry}
 use Rattle.rules.specs.Load.{column_entry, entries, offsets_on, load_below, driven_on, driven}
 use Rattle.rules.specs.Legal.{start, Stands}
 use Rattle.load.specs.declared.Tables.{Tables}
 use Rattle.load.specs.Asks.{Placed, Weighable, AsksNode, Stacked}
-use Rattle.load.proofs.Bound.{most_load, load_most}
 use Rattle.load.proofs.Order.{at, stands_at, further_up, rising}
 use Rattle.load.proofs.Begins.{Begins, begin as beginOf, begins as beginsOf}
 use Rattle.load.proofs.Offsets.{begins_rise, offsets_slice, length_drives, lowest_drives, next_drives, Counts, joined_length, joined_at}
@@ -25,17 +22,7 @@ use Rattle.load.proofs.Offsets.{begins_rise, offsets_slice, length_drives, lowes
 pub source_asked : {n : Net} {vs os : List ℕ} {t : Tables} → Weighable n vs os t → AsksNode n (offsets_on (entries vs os)) n.parents t 0
 source_asked w = record { asks = record { column = refl; tables = w.tables; within = w.placed.sound.some }; branch = λ e. omega (arith, w.placed.sound.source) }
 
-pub stacked_by : (vs : List ℕ) (k : ℕ) → 0 < k → Stacked vs k (eqb (get_or vs (k - 1) 0) (get_or vs k 0))
-stacked_by vs k h = elim (ℕ_discrete (get_or vs (k - 1) 0) (get_or vs k 0)) [
-  | yes e ↦ rw (eq-eqb (get_or vs (k - 1) 0) (get_or vs k 0) e) (h, e)
-  | no ne ↦ rw (ne_eqb (get_or vs (k - 1) 0) (get_or vs k 0) ne) (λ l. ne)
-]
-
 module _ {n : Net} {vs os : List ℕ} (p : Placed n vs os) where
-  -- the load below a node, by another name
-  pub load_fits : (v r : ℕ) → v < places n → r ≡ load_below n (offsets_on (entries vs os)) v → r ≤ most_load
-  load_fits v r h e = rw e (load_most p.sound (offsets_on (entries vs os)) v h)
-
   -- where the entries of wire i begin
   abbrev begin : ℕ → ℕ
   begin i = beginOf vs i
@@ -94,9 +81,6 @@ module _ {n : Net} {vs os : List ℕ} (p : Placed n vs os) where
   module _ (k : ℕ) (h : k < length vs) where
     pub wire_within : get_or vs k 0 < places n
     wire_within = (stands k h).within
-
-    pub offset_within : get_or os k 0 ≤ wire n (get_or vs k 0)
-    offset_within = (stands k h).offset
 
     pub offset_most : get_or os k 0 ≤ most_wire
     offset_most = omega (arith, (stands k h).offset, p.sound.wire_most (get_or vs k 0))

@@ -1,17 +1,12 @@
 -- Whether a sum is odd, by whether its parts are.
-use Prim.Native.Nat.{ℕ, ◌+◌, ◌%◌, ◌≤◌}
+use Prim.Native.Nat.{ℕ, ◌+◌, ◌%◌}
 use mathlib.Core.Path.{◌≡◌, refl, sym, ◌∙◌}
 use mathlib.Core.Bool.{Bool, true, false, not, beq}
 use native.Mathlib.Omega.{arith}
 use native.Mathlib.Decide.{ℕ_discrete}
-use lib.Dec.{eqb}
 use borrow.Author.Tests.{eq-eqb, ne_eqb, eqb-true}
 use Rattle.rules.proofs.Tests.{never}
 use Rattle.senses.specs.Parity.{is_odd}
-
--- of a number that is 0 or 1
-pub odd_bit : (b : ℕ) → b ≤ 1 → eqb b 1 ≡ is_odd b
-odd_bit b h = let e : b % 2 ≡ b = omega arith in rw e
 
 pub odd_next : (a : ℕ) → is_odd (a + 1) ≡ not (is_odd a)
 odd_next a = elim (ℕ_discrete (a % 2) 1) [

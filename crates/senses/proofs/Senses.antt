@@ -13,16 +13,13 @@ use Rattle.rules.specs.Sound.{SoundNet}
 use Rattle.rules.specs.Judge.{judge_each}
 use Rattle.rules.specs.Checked.{has_sense, one_sense}
 use Rattle.std.specs.Prelude.{Some, None, position}
-use Rattle.rules.proofs.Each.{Going, going_start, going_stop, going_next, going_end}
+use Rattle.rules.proofs.Each.{Going, going_stop, going_next, going_end}
 use Rattle.rules.proofs.LegalJudged.{no_sinks}
 use Rattle.senses.proofs.Sinks.{is_sink, sink_found, sink_none}
 
 -- the loop over m nodes has come to node i: each sink is held against s
 pub record Senses (n : Net) (offs : ℕ → List ℕ) (s m i : ℕ) : Type 0 where
   pub going : Going (has_sense n offs s) (m - 1) 1 i
-
-pub senses_start : {n : Net} {offs : ℕ → List ℕ} {s m : ℕ} → Senses n offs s m 1
-senses_start {n} {offs} {s} {m} = record { going = going_start (has_sense n offs s) (m - 1) 1 }
 
 module _ {n : Net} {offs : ℕ → List ℕ} {s m i : ℕ} (g : Senses n offs s m i) where
   pub senses_other : i < m → (kind n i ≡ 1 → ⊥) → Senses n offs s m (i + 1)
