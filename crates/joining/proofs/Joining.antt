@@ -61,7 +61,7 @@ first d {x} (added {x = y} {a = a} {whole = w} h) p r =
 
 -- ---- which is next, by the entries' columns
 
-on_from : (vs os : List ℕ) (k : ℕ) → length os ≡ length vs → k < length vs → drop k (entries vs os) ≡ at (get_or vs k 0) (get_or os k 0) ∷ drop (suc k) (entries vs os)
+on_from : (vs os : List ℕ) (k : ℕ) → length os ≡ length vs → k < length vs → drop k (entries vs os) ≡ column_entry vs os k ∷ drop (suc k) (entries vs os)
 unfolding entries
 on_from [] os k e h = absurd (omega arith)
 on_from (v ∷ vs) [] k e h = absurd (omega arith)
@@ -75,7 +75,7 @@ entries_long (v ∷ vs) [] e = absurd (omega arith)
 entries_long (v ∷ vs) (o ∷ os) e = ap suc (entries_long vs os (omega arith))
 
 module _ (vs os : List ℕ) (even : length os ≡ length vs) where
-  taken : (k : ℕ) → k < length vs → drop k (entries vs os) ≡ at (get_or vs k 0) (get_or os k 0) ∷ drop (k + 1) (entries vs os)
+  taken : (k : ℕ) → k < length vs → drop k (entries vs os) ≡ column_entry vs os k ∷ drop (k + 1) (entries vs os)
   taken k h = rw add-one (on_from vs os k even h)
 
   -- past the end there is none
@@ -86,11 +86,11 @@ module _ (vs os : List ℕ) (even : length os ≡ length vs) where
   one_left k x es e = omega (arith, ap length e, length-drop k (entries vs os), entries_long vs os even)
 
   -- the one that is next, and those after it
-  next_is : (k : ℕ) (x : Entry) (es : List Entry) → drop k (entries vs os) ≡ x ∷ es → (x ≡ at (get_or vs k 0) (get_or os k 0)) × (es ≡ drop (k + 1) (entries vs os))
+  next_is : (k : ℕ) (x : Entry) (es : List Entry) → drop k (entries vs os) ≡ x ∷ es → (x ≡ column_entry vs os k) × (es ≡ drop (k + 1) (entries vs os))
   next_is k x es e = let t = taken k (one_left k x es e) in (cc, cc)
 
 nothing_first : {A : Type 0} {x : Entry} {es es' : List Entry} → es ≡ [] → es ≡ x ∷ es' → A
-nothing_first e f = absurd (let z : ◌≡◌ {A = ℕ} 0 1 = cc in omega arith)
+nothing_first e f = never (cc)
 
 -- i given and j added ones have been taken
 module _ {gw go aw ao : List ℕ} {i j : ℕ} (l : Left gw go aw ao i j) where

@@ -15,14 +15,12 @@ use Rattle.rules.specs.declared.Refusal.{Refusal}
 use Rattle.rules.specs.declared.Refusal.TheVariants.{NoRoom}
 use Rattle.rules.specs.Judged.{Judged}
 use Rattle.rules.specs.Figures.{most_entries}
+use Rattle.rules.proofs.Tests.{never}
 use Rattle.field.specs.Listed.{listed}
 use Rattle.field.proofs.Listing.{length_listed}
 use Rattle.placement_file.specs.File.{Outcome, placement, refused, outcome, owed, entry_at, file_judged, placement_of, wire, offset, answer, ReadAs}
 use Rattle.placement_file.proofs.Judging.{sound_few}
 use Rattle.placement_file.proofs.SamePlacement.{stored}
-
-never : {A : Type 0} → ◌≡◌ {A = ℕ} 0 1 → A
-never e = absurd (omega arith)
 
 pub few_entries : (s : List ℕ) (es : List Entry) → placement_of s ≡ placement es → length es ≤ most_entries
 unfolding placement_of

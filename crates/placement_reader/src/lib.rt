@@ -6,7 +6,7 @@ ghost use Rattle.std.proofs.lemmas.List.Edits.{sets};
 ghost use Rattle.field.specs.Listed.{listed};
 ghost use Rattle.placement_file.specs.File.{allowed, count_in, entry_in, owed, count_judged, start_of, entry_at, entry_judged, end_judged, body_judged, file_judged, wire, offset, placement_of, ReadAs};
 
-use field::{Field, Value};
+use field::{COUNT_TAG, END_TAG, ENTRY_TAG, Field, Value};
 use placement_file::{ENTRIES, Entries};
 use rules::{Entry, Refusal};
 
@@ -35,7 +35,7 @@ fn entry_in(f: Field) -> Entry
 fn read_count(s: &[u8]) -> Result<usize, Refusal>
     ensures { result ≡ allowed (count_judged s.now) (owed s.now) }
 {
-    let n = count_in(field_reader::read_due(s, 0, 17)?) as usize;
+    let n = count_in(field_reader::read_due(s, 0, COUNT_TAG)?) as usize;
     if ENTRIES < n {
         return Err(Refusal::OutOfRange(0));
     }
@@ -57,7 +57,7 @@ fn read_entry(s: &[u8], i: usize) -> Result<Entry, Refusal>
     ensures { result ≡ allowed (entry_judged s.now i) (entry_at s.now i) }
 {
     let at = start_of(i);
-    let e = entry_in(field_reader::read_due(s, at, 18)?);
+    let e = entry_in(field_reader::read_due(s, at, ENTRY_TAG)?);
     if !placement::entry_in_range(e) {
         return Err(Refusal::OutOfRange(at));
     }
@@ -70,7 +70,7 @@ fn judge_end(s: &[u8], at: usize) -> Result<(), Refusal>
     requires { at ≤ 36869 }
     ensures { result ≡ end_judged s.now at }
 {
-    field_reader::read_due(s, at, 127)?;
+    field_reader::read_due(s, at, END_TAG)?;
     let next = at + 3;
     if next < s.len() {
         return Err(Refusal::BytesAfterEnd(next));
