@@ -5,7 +5,6 @@ ghost use Rattle.std.specs.Prelude.{◌≡◌, ◌≤◌, length, take};
 ghost use Rattle.reply.specs.Said.{most_text};
 ghost use Rattle.mustorgyel.specs.Printed.{most_read, Answers, PrintsAll};
 
-use input::Input;
 use std::io::{Read, Write};
 
 // The bytes that are taken in (RULES 7.2). They decide the answer, whatever comes after them.
@@ -30,44 +29,41 @@ fn answer_input(buffer: &[u8], count: usize, out: &mut [u8]) -> usize
     reply.text
 }
 
-// How a run ended.
+// Why a run did not print its answer.
 #[derive(Clone, Copy)]
-enum Ended {
-    Printed,
+enum Fault {
     Unread,
     Unwritten,
 }
 
-// Reads an input to its end, or as far as it decides, and prints its answer.
-fn answer_all<R: Read, W: Write>(reader: &mut R, output: &mut W) -> Ended
-    ensures { PrintsAll (R.remaining reader.old) (W.contents output.old) (W.contents output.new) result }
-{
-    let mut buffer = [0u8; INPUT];
-    let Input::Bytes(count) = input::read(reader, &mut buffer) else {
-        return Ended::Unread;
-    };
-    let mut text = [0u8; TEXT];
-    let bytes = answer_input(&buffer, count, &mut text);
-    match output.write_all(&text[..bytes]) {
-        Ok(()) => Ended::Printed,
-        Err(_) => Ended::Unwritten,
+impl Fault {
+    // What is said of it on standard error.
+    fn line(self) -> &'static str {
+        match self {
+            Fault::Unread => "mustorgyel: standard input could not be read to its end",
+            Fault::Unwritten => "mustorgyel: standard output could not be written",
+        }
     }
 }
 
-// What cannot be said on standard error can be said nowhere.
-fn say(rt: &impl Eprint, line: &str) {
-    let _ = rt.eprintln(line);
+// Reads an input to its end, or as far as it decides, and prints its answer.
+fn answer_all<R: Read, W: Write>(reader: &mut R, output: &mut W) -> Result<(), Fault>
+    ensures { PrintsAll (R.remaining reader.old) (W.contents output.old) (W.contents output.new) result }
+{
+    let mut buffer = [0u8; INPUT];
+    let count = input::read(reader, &mut buffer).map_err(|_| Fault::Unread)?;
+    let mut text = [0u8; TEXT];
+    let bytes = answer_input(&buffer, count, &mut text);
+    output
+        .write_all(&text[..bytes])
+        .map_err(|_| Fault::Unwritten)
 }
 
 // Its status is 0 in any case. Without an answer nothing, or not all of it, stands on standard output, and a line on standard error; the
 // launcher makes a status of that (RULES 7.8).
 fn main(rt: HostRuntime) {
-    match answer_all(&mut rt.stdin(), &mut rt.stdout()) {
-        Ended::Printed => {}
-        Ended::Unread => say(
-            &rt,
-            "mustorgyel: standard input could not be read to its end",
-        ),
-        Ended::Unwritten => say(&rt, "mustorgyel: standard output could not be written"),
+    if let Err(fault) = answer_all(&mut rt.stdin(), &mut rt.stdout()) {
+        // What cannot be said on standard error can be said nowhere.
+        let _ = rt.eprintln(fault.line());
     }
 }
