@@ -1,6 +1,6 @@
 -- A number and its bytes, at every width, and rows of numbers: by induction on the width, one byte off the low end, and on the row.
 use Prim.Native.Nat.{ℕ, zero, suc, ◌+◌, ◌*◌, ◌/◌, ◌%◌, ◌<◌, ◌≤◌, ◌^◌}
-use native.Mathlib.Nat.{add_assoc, add-zero, suc-add, add-suc, pow-suc}
+use native.Mathlib.Nat.{add-zero, suc-add, add-suc, pow-suc}
 use native.Mathlib.Omega.{arith}
 use mathlib.Core.Path.{◌≡◌, refl, sym, ap, ◌∙◌}
 use mathlib.Core.List.{List, [], ◌∷◌, ◌++◌, append_assoc}
@@ -63,26 +63,8 @@ module _ (l : List ℕ) (by : AreBytes l) where
   all_back (w ∷ ws) k h =
       rw (bytes_back w k (omega arith), all_back ws (k + w) (omega arith), take-add w (sum ws) (drop k l), drop-drop w k l)
 
--- ---- four bytes are two and two
-
-pub number_halves : (l : List ℕ) (k : ℕ) → number_at 2 l k * 65536 + number_at 2 l (k + 2) ≡ number_at 4 l k
-number_halves l k = simp add_assoc (omega arith)
-
-pub bytes_halves : (x : ℕ) → bytes_in 2 (x / 65536) ++ bytes_in 2 (x % 65536) ≡ bytes_in 4 x
-bytes_halves x =
-    let a : x / 65536 / 256 ≡ x / 256 / 256 / 256 = omega arith in
-    let b : x / 65536 % 256 ≡ x / 256 / 256 % 256 = omega arith in
-    let c : x % 65536 / 256 ≡ x / 256 % 256 = omega arith in
-    let d : x % 65536 % 256 ≡ x % 256 = omega arith in
-    cc
+-- ---- stores, one run after the other
 
 pub sets_append : (l : List ℕ) (i : ℕ) (xs ys : List ℕ) → sets l i (xs ++ ys) ≡ sets (sets l i xs) (i + length xs) ys
 sets_append l i [] ys = simp add-zero
 sets_append l i (x ∷ xs) ys = sets_append (set l i x) (suc i) xs ys ∙ simp (suc-add, add-suc)
-
-pub four_laid : (l : List ℕ) {l₁ l₂ : List ℕ} (k x : ℕ) → l₁ ≡ sets l k (bytes_in 2 (x / 65536)) → l₂ ≡ sets l₁ (k + 2) (bytes_in 2 (x % 65536)) → l₂ ≡ sets l k (bytes_in 4 x)
-four_laid l k x e f =
-    f
-    ∙ ap (λ (o : List ℕ). sets o (k + 2) (bytes_in 2 (x % 65536))) e
-    ∙ sym (sets_append l k (bytes_in 2 (x / 65536)) (bytes_in 2 (x % 65536)))
-    ∙ ap (sets l k) (bytes_halves x)

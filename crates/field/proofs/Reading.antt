@@ -1,12 +1,11 @@
 -- What a file says at a place, from what was read of the header; and what a field that was got says of the file.
 use Rattle.std.specs.Prelude.{Ok, Err}
-use Prim.Native.Nat.{ℕ, ◌+◌, ◌-◌, ◌<◌, ◌≤◌}
+use Prim.Native.Nat.{ℕ, ◌+◌, ◌<◌, ◌≤◌}
 use native.Mathlib.Omega.{arith}
 use mathlib.Core.Path.{◌≡◌, refl, sym, ◌∙◌}
 use mathlib.Core.List.{List}
 use mathlib.Core.Bool.{Bool, true, false}
-use lib.ListN.{length, get_or, take, drop, length-drop}
-use lib.Seq.{take_all}
+use lib.ListN.{length, get_or, drop}
 use lib.Dec.{ltb, eqb}
 use borrow.Author.Tests.{lt-ltb, le-ltb, eq-eqb, ne_eqb}
 use Rattle.rules.specs.declared.Refusal.TheVariants.{FileEnds, NotDue}
@@ -36,10 +35,6 @@ module _ (at : ℕ) (l : List ℕ) {said body : ℕ} (room : 3 ≤ length l) (s 
 -- a tag that is not in the table: no two bytes say the length that goes with it
 pub unknown : (at : ℕ) (l : List ℕ) → AreBytes l → 3 ≤ length l → length_of (get_or l 0 0) ≡ 65536 → Err (Refused (NotDue at)) ≡ field_in at l
 unknown at l by room none = not_due at l room refl refl (λ q. omega (arith, by 1, by 2, q, none))
-
--- the part of a slice from a place to its end
-pub part_drop : (s : List ℕ) (at : ℕ) → take (length s - at) (drop at s) ≡ drop at s
-part_drop s at = take_all (length s - at) (drop at s) (simp length-drop (omega arith))
 
 -- RULES 4.3: the place is where the field begins, whatever is answered
 pub read_place_lem : (s : List ℕ) (at : ℕ) → read_place (field_at s at) ≡ at

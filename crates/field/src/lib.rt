@@ -19,6 +19,21 @@ pub const ENTRY_TAG: u8 = 18;
 
 pub const END_TAG: u8 = 127;
 
+// The bytes of a field's header, which are its tag and the two bytes of its length, and of each whole field.
+pub const HEADER: usize = 3;
+
+pub const LIMITS_SIZE: usize = 12;
+
+pub const BRANCH_SIZE: usize = 9;
+
+pub const SINK_SIZE: usize = 14;
+
+pub const COUNT_SIZE: usize = 5;
+
+pub const ENTRY_SIZE: usize = 9;
+
+pub const END_SIZE: usize = 3;
+
 // The six things that a field is, each with its values: RULES 3.4, 3.12.
 #[derive(Clone, Copy, Debug, PartialEq, Eq)]
 pub enum Value {

@@ -5,10 +5,12 @@ ghost use Rattle.std.specs.Prelude.{◌≡◌, ◌+◌, ◌<◌, ◌≤◌, leng
 ghost use Rattle.field.specs.Format.{number_at, length_of, value_in, field_in, field_at, due_in, due_at};
 
 use field::{
-    BRANCH_TAG, COUNT_TAG, END_TAG, ENTRY_TAG, Field, LIMITS_TAG, NoField, SINK_TAG, Value,
+    BRANCH_SIZE, BRANCH_TAG, COUNT_SIZE, COUNT_TAG, END_SIZE, END_TAG, ENTRY_SIZE, ENTRY_TAG,
+    Field, HEADER, LIMITS_SIZE, LIMITS_TAG, NoField, SINK_SIZE, SINK_TAG, Value,
 };
 use rules::{Entry, Limits, Refusal};
 
+// The number in two bytes, and in four, high byte first: RULES 3.3.
 fn read2(s: &[u8], k: usize) -> u16
     requires { k + 2 ≤ length s.now }
     ensures { result ≡ number_at 2 s.now k }
@@ -28,16 +30,17 @@ fn length_of(tag: u8) -> usize
     ensures { result ≡ length_of tag }
 {
     match tag {
-        LIMITS_TAG => 9,
-        BRANCH_TAG => 6,
-        SINK_TAG => 11,
-        COUNT_TAG => 2,
-        ENTRY_TAG => 6,
-        END_TAG => 0,
+        LIMITS_TAG => LIMITS_SIZE - HEADER,
+        BRANCH_TAG => BRANCH_SIZE - HEADER,
+        SINK_TAG => SINK_SIZE - HEADER,
+        COUNT_TAG => COUNT_SIZE - HEADER,
+        ENTRY_TAG => ENTRY_SIZE - HEADER,
+        END_TAG => END_SIZE - HEADER,
         _ => 65536,
     }
 }
 
+// The values in a whole field.
 fn value_in(f: &[u8], tag: u8) -> Value
     requires { 3 + length_of tag ≤ length f.now }
     ensures { result ≡ value_in tag f.now }
@@ -67,7 +70,7 @@ fn value_in(f: &[u8], tag: u8) -> Value
     }
 }
 
-// The field of this tag at the front of the bytes from the place at on. Callers name the tag as a number, so the compiler leaves one arm of each table.
+// The field of this tag at the front of the bytes from the place at on. Callers name the tag as a constant, so the compiler leaves one arm of each table.
 #[tactic(auto, using(field::proofs::Reading::not_due, field::proofs::Reading::cut, field::proofs::Reading::got))]
 fn field_of(f: &[u8], at: usize, tag: u8) -> Result<Field, NoField>
     requires { (3 ≤ length f.now) × (get_or f.now 0 0 ≡ tag) }
@@ -77,7 +80,7 @@ fn field_of(f: &[u8], at: usize, tag: u8) -> Result<Field, NoField>
     if read2(f, 1) as usize != body {
         return Err(NoField::Refused(Refusal::NotDue(at)));
     }
-    if f.len() < 3 + body {
+    if f.len() < HEADER + body {
         return Err(NoField::Cut { tag, place: at });
     }
     Ok(Field {
@@ -91,7 +94,7 @@ fn field_of(f: &[u8], at: usize, tag: u8) -> Result<Field, NoField>
 fn field_in(f: &[u8], at: usize) -> Result<Field, NoField>
     ensures { result ≡ field_in at f.now }
 {
-    if f.len() < 3 {
+    if f.len() < HEADER {
         return Err(NoField::Refused(Refusal::FileEnds(at)));
     }
     match f[0] {
@@ -124,7 +127,7 @@ pub fn read_field(s: &[u8], at: usize) -> Result<Field, NoField>
 fn due_in(f: &[u8], at: usize, tag: u8) -> Result<Field, Refusal>
     ensures { result ≡ due_in tag (field_in at f.now) }
 {
-    if f.len() < 3 {
+    if f.len() < HEADER {
         return Err(Refusal::FileEnds(at));
     }
     if f[0] != tag {

@@ -1,20 +1,25 @@
 // A field of a file, written: RULES 6.23.
 #![tactic(auto)]
 
-ghost use Rattle.std.specs.Prelude.{◌≡◌, [], ◌∷◌, ◌++◌, ◌+◌, ◌≤◌, length};
+ghost use Rattle.std.specs.Prelude.{◌≡◌, [], ◌∷◌, ◌++◌, ◌+◌, ◌-◌, ◌<◌, ◌≤◌, length};
 ghost use Rattle.std.proofs.lemmas.List.Edits.{sets};
 ghost use Rattle.field.specs.Format.{bytes_in, bytes_of, wrote, laid};
 
-use field::{BRANCH_TAG, COUNT_TAG, END_TAG, ENTRY_TAG, LIMITS_TAG, SINK_TAG, Value};
+use field::{
+    BRANCH_SIZE, BRANCH_TAG, COUNT_SIZE, COUNT_TAG, END_SIZE, END_TAG, ENTRY_SIZE, ENTRY_TAG,
+    HEADER, LIMITS_SIZE, LIMITS_TAG, SINK_SIZE, SINK_TAG, Value,
+};
 use rules::{Limits, Refusal};
 
-fn put_head(out: &mut [u8], tag: u8, size: u8)
-    requires { 3 ≤ length out.old }
-    ensures { out.new ≡ sets out.old 0 (tag ∷ 0 ∷ size ∷ []) }
+// The header of a field that takes so many bytes.
+fn put_head(out: &mut [u8], tag: u8, size: usize)
+    requires { (3 ≤ length out.old) × (3 ≤ size) × (size < 256) }
+    ensures { out.new ≡ sets out.old 0 (tag ∷ 0 ∷ (size - 3) ∷ []) }
 {
-    out[..3].copy_from_slice(&[tag, 0, size]);
+    out[..HEADER].copy_from_slice(&[tag, 0, (size - HEADER) as u8]);
 }
 
+// A number in two bytes, and in four, high byte first: RULES 3.3.
 fn put2(out: &mut [u8], k: usize, x: u16)
     requires { k + 2 ≤ length out.old }
     ensures { out.new ≡ sets out.old k (bytes_in 2 x) }
@@ -30,9 +35,9 @@ fn put4(out: &mut [u8], k: usize, x: u32)
 }
 
 // A header, and the two numbers that branches, sinks and entries begin with.
-fn put_pair(out: &mut [u8], tag: u8, size: u8, x: u16, y: u32)
-    requires { 9 ≤ length out.old }
-    ensures { out.new ≡ sets out.old 0 (tag ∷ 0 ∷ size ∷ bytes_in 2 x ++ bytes_in 4 y) }
+fn put_pair(out: &mut [u8], tag: u8, size: usize, x: u16, y: u32)
+    requires { (9 ≤ length out.old) × (3 ≤ size) × (size < 256) }
+    ensures { out.new ≡ sets out.old 0 (tag ∷ 0 ∷ (size - 3) ∷ bytes_in 2 x ++ bytes_in 4 y) }
 {
     put_head(out, tag, size);
     put2(out, 3, x);
@@ -43,7 +48,7 @@ fn put_limits(out: &mut [u8], l: Limits)
     requires { 12 ≤ length out.old }
     ensures { out.new ≡ sets out.old 0 (bytes_of (Value.Limits l)) }
 {
-    put_head(out, LIMITS_TAG, 9);
+    put_head(out, LIMITS_TAG, LIMITS_SIZE);
     put4(out, 3, l.limit);
     put4(out, 7, l.pin);
     out[11] = l.repeater;
@@ -53,7 +58,7 @@ fn put_sink(out: &mut [u8], parent: u16, wire: u32, pin: u32, polarity: u8)
     requires { 14 ≤ length out.old }
     ensures { out.new ≡ sets out.old 0 (bytes_of (Value.Sink parent wire pin polarity)) }
 {
-    put_pair(out, SINK_TAG, 11, parent, wire);
+    put_pair(out, SINK_TAG, SINK_SIZE, parent, wire);
     put4(out, 9, pin);
     out[13] = polarity;
 }
@@ -62,7 +67,7 @@ fn put_count(out: &mut [u8], n: u16)
     requires { 5 ≤ length out.old }
     ensures { out.new ≡ sets out.old 0 (bytes_of (Value.Count n)) }
 {
-    put_head(out, COUNT_TAG, 2);
+    put_head(out, COUNT_TAG, COUNT_SIZE);
     put2(out, 3, n);
 }
 
@@ -72,7 +77,7 @@ fn put(out: &mut [u8], v: Value)
 {
     match v {
         Value::Limits(l) => put_limits(out, l),
-        Value::Branch { parent, wire } => put_pair(out, BRANCH_TAG, 6, parent, wire),
+        Value::Branch { parent, wire } => put_pair(out, BRANCH_TAG, BRANCH_SIZE, parent, wire),
         Value::Sink {
             parent,
             wire,
@@ -80,8 +85,8 @@ fn put(out: &mut [u8], v: Value)
             polarity,
         } => put_sink(out, parent, wire, pin, polarity),
         Value::Count(n) => put_count(out, n),
-        Value::Entry(e) => put_pair(out, ENTRY_TAG, 6, e.wire, e.offset),
-        Value::End => put_head(out, END_TAG, 0),
+        Value::Entry(e) => put_pair(out, ENTRY_TAG, ENTRY_SIZE, e.wire, e.offset),
+        Value::End => put_head(out, END_TAG, END_SIZE),
     }
 }
 
@@ -90,12 +95,12 @@ pub fn size(v: Value) -> usize
     ensures { result ≡ length (bytes_of v) }
 {
     match v {
-        Value::Limits(_) => 12,
-        Value::Branch { .. } => 9,
-        Value::Sink { .. } => 14,
-        Value::Count(_) => 5,
-        Value::Entry(_) => 9,
-        Value::End => 3,
+        Value::Limits(_) => LIMITS_SIZE,
+        Value::Branch { .. } => BRANCH_SIZE,
+        Value::Sink { .. } => SINK_SIZE,
+        Value::Count(_) => COUNT_SIZE,
+        Value::Entry(_) => ENTRY_SIZE,
+        Value::End => END_SIZE,
     }
 }
 

@@ -2,13 +2,15 @@
 // lends: so nothing lent changes before all is judged.
 #![tactic(auto)]
 
-ghost use Rattle.std.specs.Prelude.{◌≡◌, ◌+◌, ◌<◌, ◌≤◌, ◌^◌, length, get_or, leb};
-ghost use Rattle.rules.specs.Judge.{unless, then_judge, childed_by};
+ghost use Rattle.std.specs.Prelude.{◌≡◌, ◌+◌, ◌<◌, ◌^◌};
 ghost use Rattle.field.specs.Format.{cut_at, due_at};
 ghost use Rattle.net_file.specs.NetFile.{front_value, front_of, node_due, taken_value, taken_at, net_from, net_of, kept_in, blank};
 ghost use Rattle.net_scan.specs.Kept.{JudgedFile};
 
-use field::{BRANCH_TAG, END_TAG, Field, LIMITS_TAG, NoField, SINK_TAG, Value};
+use field::{
+    BRANCH_SIZE, BRANCH_TAG, END_SIZE, END_TAG, Field, LIMITS_SIZE, LIMITS_TAG, NoField, SINK_SIZE,
+    SINK_TAG, Value,
+};
 use net_file::{Columns, NetRead, Taken};
 use rules::{Limits, Node, Refusal};
 
@@ -23,6 +25,7 @@ fn cut(due: bool, place: usize) -> Refusal
     }
 }
 
+// The limits in their field: 2 for another, then 3.
 fn front_of(f: Field) -> Result<Limits, Refusal>
     ensures { result ≡ front_value f.at f.value }
 {
@@ -42,12 +45,14 @@ fn read_front(s: &[u8]) -> Result<Limits, Refusal>
     front_of(field_reader::read_due(s, 0, LIMITS_TAG)?)
 }
 
+// At a later place a branch point, a sink or the end is due: RULES 5.2.
 fn node_due(tag: u8) -> bool
     ensures { result ≡ node_due tag }
 {
     matches!(tag, BRANCH_TAG | SINK_TAG | END_TAG)
 }
 
+// The node in its field, none in the end, and 2 for another.
 fn taken_of(f: Field) -> Result<Option<Taken>, Refusal>
     requires { f.at + 14 < 2 ^ 64 }
     ensures { result ≡ taken_value f.at f.value }
@@ -61,7 +66,7 @@ fn taken_of(f: Field) -> Result<Option<Taken>, Refusal>
                 pin: 0,
                 polarity: 0,
             },
-            next: f.at + 9,
+            next: f.at + BRANCH_SIZE,
         })),
         Value::Sink {
             parent,
@@ -76,7 +81,7 @@ fn taken_of(f: Field) -> Result<Option<Taken>, Refusal>
                 pin,
                 polarity,
             },
-            next: f.at + 14,
+            next: f.at + SINK_SIZE,
         })),
         Value::End => Ok(None),
         _ => Err(Refusal::NotDue(f.at)),
@@ -94,24 +99,13 @@ fn take_node(s: &[u8], at: usize) -> Result<Option<Taken>, Refusal>
     }
 }
 
-// Behind the end of a file of n places: 6, then 5.
-fn finish(s: &[u8], next: usize, kinds: &[u8], counts: &[u8; 1025], n: usize) -> Result<(), Refusal>
-    requires { (n ≤ length kinds.now) × (length counts.now ≡ 1025) × (n ≤ 1025) }
-    ensures { result ≡ then_judge (unless (leb (length s.now) next) (Refusal.BytesAfterEnd next)) (childed_by (λ j. get_or kinds.now j 0) (λ j. get_or counts.now j 0) n) }
-{
-    if next < s.len() {
-        return Err(Refusal::BytesAfterEnd(next));
-    }
-    net::all_childed(kinds, counts, n)
-}
-
-// The fields after the limits, judged one by one over the kinds of the nodes so far and the children that each has.
+// The fields after the limits, judged one by one over the kinds of the nodes so far and the children that each has. Behind the end: 6, then 5.
 fn judge_fields(s: &[u8], limits: Limits, columns: &mut Columns) -> Result<NetRead, Refusal>
     requires { kept_in columns.old ≡ blank }
     ensures { JudgedFile s.now (net_from s.now limits) (kept_in columns.new) result }
 {
     let mut counts = [0u8; 1025];
-    let mut at: usize = 12;
+    let mut at = LIMITS_SIZE;
     let mut i: usize = 1;
     while let Some(taken) = take_node(s, at)? {
         net::admit(limits, taken.node, i, &columns.kind, &counts, at)?;
@@ -120,7 +114,11 @@ fn judge_fields(s: &[u8], limits: Limits, columns: &mut Columns) -> Result<NetRe
         i += 1;
         at = taken.next;
     }
-    finish(s, at + 3, &columns.kind, &counts, i)?;
+    let next = at + END_SIZE;
+    if next < s.len() {
+        return Err(Refusal::BytesAfterEnd(next));
+    }
+    net::all_childed(&columns.kind, &counts, i)?;
     Ok(NetRead { limits, places: i })
 }
 

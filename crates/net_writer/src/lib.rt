@@ -7,7 +7,7 @@ ghost use Rattle.rules.specs.Net.{net_of};
 ghost use Rattle.net.specs.Counted.{Level};
 ghost use Rattle.net_file.specs.NetFile.{field_of, net_bytes, WroteNet};
 
-use field::Value;
+use field::{END_SIZE, LIMITS_SIZE, Value};
 use rules::{LentNet, Node, Refusal};
 
 // The field of a node.
@@ -15,25 +15,26 @@ fn value_of(d: Node) -> Value
     ensures { result ≡ field_of d }
 {
     if d.kind == 1 {
-        return Value::Sink {
+        Value::Sink {
             parent: d.parent,
             wire: d.wire,
             pin: d.pin,
             polarity: d.polarity,
-        };
-    }
-    Value::Branch {
-        parent: d.parent,
-        wire: d.wire,
+        }
+    } else {
+        Value::Branch {
+            parent: d.parent,
+            wire: d.wire,
+        }
     }
 }
 
-// The bytes of a file with these nodes: 15 for the limits and the end.
+// The bytes of a file with these nodes.
 fn net_size(net: &LentNet) -> usize
     requires { Level (net_of net.now) }
     ensures { result ≡ length (net_bytes (net_of net.now)) }
 {
-    let mut size: usize = 15;
+    let mut size = LIMITS_SIZE + END_SIZE;
     for i in 1..net.parent.len() {
         size += field_writer::size(value_of(net.node(i)));
     }

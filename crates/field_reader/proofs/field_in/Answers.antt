@@ -4,4 +4,4 @@ use Rattle.field.proofs.Reading.{unknown}
 use Rattle.field_reader.proofs.field_in.Goals as goal
 
 pub returns-in_default : goal.returns-in_default
-returns-in_default c = unknown c.args.at c.args.f.now (λ k. (c.type_inv.f k).fits) c.if-f-lt3.false (search rules)
+returns-in_default c = unknown c.args.at c.args.f.now (λ k. (c.type_inv.f k).fits) c.if-f-lt-HEADER.false (search rules)

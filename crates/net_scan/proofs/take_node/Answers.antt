@@ -8,7 +8,7 @@ use Rattle.net_scan.proofs.take_node.Goals as goal
 
 pub taken_of-requires : goal.taken_of-requires
 taken_of-requires c =
-    let w : Stands c.args.s.now c.args.at c.in-Ok.f = written_read c.args.s.now c.args.at c.in-Ok.f (λ k. (c.shared_slice_known-1.given k).fits) (sym c.read_field.ensures ∙ c.in-Ok.is) in
+    let w : Stands c.args.s.now c.args.at c.in-Ok.f = written_read c.args.s.now c.args.at c.in-Ok.f (λ k. (c.type_inv.s k).fits) (sym c.read_field.ensures ∙ c.in-Ok.is) in
     omega (arith, w.place, w.inside, c.well_formed)
 
 pub returns-in-Ok : goal.returns-in-Ok
