@@ -5,6 +5,20 @@ ghost use Rattle.std.specs.Prelude.{◌≡◌, ◌<◌, length};
 ghost use Rattle.rules.specs.Refusal.{number_of, place_of};
 ghost use Rattle.rules.specs.Net.{net_of, node, Within};
 ghost use Rattle.rules.specs.Load.{column_entry};
+ghost use Rattle.rules.specs.Sound.{SoundNet};
+
+// The figures of RULES 1: the places of a column, the children of a node, the entries of a placement; the highest limit, wire and pin.
+pub const PLACES: usize = 1025;
+
+pub const CHILDREN: u8 = 8;
+
+pub const ENTRIES: usize = 4096;
+
+pub const MOST_LIMIT: u32 = 1_000_000;
+
+pub const MOST_WIRE: u32 = 10_000_000;
+
+pub const MOST_PIN: u32 = 1_000_000;
 
 // The limits of a net: C_U, C_b, and 0 for a buffer or 1 for an inverter. Any number may come in, and the judge refuses one that is neither.
 
@@ -57,6 +71,13 @@ impl LentNet<'_> {
             polarity: self.polarity[i],
         }
     }
+}
+
+// A net that was judged, and is sound (RULES 1.15).
+#[derive(Clone, Copy)]
+pub struct JudgedNet<'a> {
+    pub net: LentNet<'a>,
+    pub ghost sound: { SoundNet (net_of net) },
 }
 
 // A placement: the wires and the offsets of its entries.

@@ -6,7 +6,7 @@ ghost use Rattle.std.specs.Prelude.{◌≡◌, ◌≤◌, length, get_or};
 ghost use Rattle.rules.specs.Net.{net_of};
 ghost use Rattle.screen.specs.Screened.{Level, Every, node_fits, count_fits, Passed};
 
-use rules::LentNet;
+use rules::{CHILDREN, LentNet, MOST_PIN, MOST_WIRE, PLACES};
 
 // The nodes from 1 up: in their ranges, and each under a lower one.
 fn nodes_fit(net: &LentNet) -> bool
@@ -17,22 +17,22 @@ fn nodes_fit(net: &LentNet) -> bool
     for i in 1..net.parent.len() {
         let k = net.kind[i];
         let q = net.polarity[i];
-        let end = (net.pin[i] <= 1000000 * (k as u32)) & (q <= k) & (q <= net.limits.repeater);
-        let here = (net.wire[i] <= 10000000) & (k <= 1) & end & (net.parent[i] < i as u16);
+        let end = (net.pin[i] <= MOST_PIN * (k as u32)) & (q <= k) & (q <= net.limits.repeater);
+        let here = (net.wire[i] <= MOST_WIRE) & (k <= 1) & end & (net.parent[i] < i as u16);
         fine = here & fine;
     }
     fine
 }
 
 // The children of each node: none under a sink, one to eight elsewhere.
-fn counts_fit(kinds: &[u8], counts: &[u16; 1025]) -> bool
-    requires { (length kinds.now ≤ 1025) × (length counts.now ≡ 1025) }
+fn counts_fit(kinds: &[u8], counts: &[u16; PLACES]) -> bool
+    requires { length kinds.now ≤ 1025 }
     ensures { Every (λ v. count_fits (get_or kinds.now v 0) (get_or counts.now v 0)) 0 (length kinds.now) result }
 {
     let mut fine = true;
     for (v, kind) in kinds.iter().enumerate() {
         let c = counts[v];
-        fine = (c <= 8) & ((*kind == 0) == (0 < c)) & fine;
+        fine = (c <= CHILDREN as u16) & ((*kind == 0) == (0 < c)) & fine;
     }
     fine
 }
@@ -45,7 +45,7 @@ pub fn passes(net: &LentNet) -> bool
     if !nodes_fit(net) {
         return false;
     }
-    let mut counts = [0u16; 1025];
+    let mut counts = [0u16; PLACES];
     for i in 1..net.parent.len() {
         let p = net.parent[i] as usize;
         counts[p] += 1;
