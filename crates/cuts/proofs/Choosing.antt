@@ -1,22 +1,15 @@
 -- Laws of a wire's candidates: each return of the code is one case, and some try meets a target that can be met.
 use Rattle.std.specs.Prelude.{Option, Some, None}
-use Prim.Native.Nat.{ℕ, zero, suc, ◌+◌, ◌≤◌, ◌<◌}
-use mathlib.Core.Path.{◌≡◌, refl, sym, subst, ◌∙◌}
+use Prim.Native.Nat.{ℕ, zero, suc, ◌+◌}
+use mathlib.Core.Path.{◌≡◌, refl, subst}
 use native.Mathlib.Omega.{arith}
-use Rattle.frontier.specs.Cell.{inv, Cell}
-use Rattle.frontier.specs.Frontier.{State, lost, has, T, req}
+use Rattle.frontier.specs.Cell.{Cell}
+use Rattle.frontier.specs.Frontier.{State, has}
 use Rattle.surplus.specs.Choice.{Met, Meets, even, odd}
 use Rattle.cuts.specs.declared.Stand.{Stand}
 use Rattle.cuts.specs.Tries.{One, OneOk, PickOk}
 
--- ---- one candidate
-pub no_load : (τ : Cell) (π v n m l r t : ℕ) → r ≡ req τ inv π v → t ≡ T τ v r → l < t → (r' : ℕ) → One τ π v n m l r' → ⊥
-no_load τ π v n m l r t e te h r' o = let q : T τ v r ≤ l = subst (λ (y : ℕ). T τ v y ≤ l) (o.is ∙ sym e) o.load in omega arith
-
 -- ---- the two of a node
-pub met_lost : (τ : Cell) (π w m l : ℕ) (s : State) → s ≡ lost → (x h r : ℕ) → Met τ π w s m l x h r → ⊥
-met_lost τ π w m l s e x h r o = (subst (λ (s : State). Met τ π w s m l x h r) e o).under
-
 module _ (τ : Cell) (π w n a b m l : ℕ) (s : State) (e : s ≡ has n a b) where
   un : (x h r : ℕ) → Met τ π w (has n a b) m l x h r → ((r : ℕ) → One τ π (w + a) n m l r → ⊥) → ((r : ℕ) → One τ π (w + b) (n + 1) m l r → ⊥) → ⊥
   un zero h r o f g = let y : One τ π (w + h) n m l r = record { is = o.is; count = omega (arith, o.count, o.under.0); load = o.load } in f r (subst (λ (h : ℕ). One τ π (w + h) n m l r) o.under.1 y)

@@ -5,22 +5,6 @@ use native.Mathlib.Omega.{arith}
 use Rattle.surplus.specs.Dealt.{f3, Shared}
 
 module _ (g : ℕ → ℕ) (a b c : ℕ) where
-  pub share_0 : (e : ℕ) → e ≡ 0 → Shared g e a b c 0
-  share_0 zero h = let z : 0 - 0 ≡ 0 = omega arith in record { few = omega arith; le = omega arith; fits = rw z (omega arith) }
-  share_0 (suc e) h = absurd (omega arith)
-
-  two : (s : ℕ) → s ≤ 1 → f3 s (a + g 1) (b + g 0) 0 ≡ min (a + g 1) (b + g 0) → f3 s a b c + g (1 - s) ≤ min (a + g 1) (b + g 0)
-  two zero l q = let z : 1 - 0 ≡ 1 = omega arith in rw z (omega arith)
-  two (suc zero) l q = let z : 1 - 1 ≡ 0 = omega arith in rw z (omega arith)
-  two (suc (suc s)) l q = absurd (omega arith)
-
-  pub share_1 : (e s : ℕ) → e ≡ 1 → s ≤ 1 → f3 s (a + g e) (b + g (e - 1)) 0 ≡ min (a + g e) (b + g (e - 1)) → Shared g e a b c s
-  share_1 zero s h l q = absurd (omega arith)
-  share_1 (suc zero) s h l q =
-      let z : 1 - 1 ≡ 0 = omega arith in
-      record { few = omega arith; le = omega arith; fits = two s l (rw z at q) }
-  share_1 (suc (suc e)) s h l q = absurd (omega arith)
-
   three : (e s x y z : ℕ) → s ≤ 2 → x ≡ a + g (suc (suc e)) → y ≡ b + g (suc e) → z ≡ c + g e → f3 s x y z ≡ min x (min y z) → f3 s a b c + g (suc (suc e) - s) ≤ min x (min y z)
   three e zero x y z l i j k q = let p : suc (suc e) - 0 ≡ suc (suc e) = omega arith in rw p (omega arith)
   three e (suc zero) x y z l i j k q = let p : suc (suc e) - 1 ≡ suc e = omega arith in rw p (omega arith)

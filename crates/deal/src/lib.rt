@@ -1,15 +1,14 @@
 // A node's surplus dealt out to its wires once, along their chain.
 #![tactic(auto)]
 
-ghost use Rattle.std.specs.Prelude.{ℕ, ◌≡◌, ◌+◌, ◌*◌, ◌<◌, ◌≤◌, min, length};
+ghost use Rattle.std.specs.Prelude.{ℕ, ◌≡◌, ◌*◌, ◌<◌, ◌≤◌, min};
 ghost use Rattle.rules.specs.Figures.{most_places, most_children};
 ghost use Rattle.rules.specs.Tree.{Hanging};
 ghost use Rattle.frontier.specs.Cell as model;
 ghost use Rattle.states.specs.States.{model_of};
 ghost use Rattle.surplus.specs.Rows.{load_at};
 ghost use Rattle.surplus.specs.Dealt.{f3, Shared};
-ghost use Rattle.surplus.specs.Tables.{lo_at, hi_at};
-ghost use Rattle.surplus.specs.Asks.{Gains, Asks, Asked, Out, PartIs, AsksMore, AskedMore};
+ghost use Rattle.surplus.specs.Asks.{Gains, Asks, Asked, Out, AsksMore, AskedMore};
 
 use rows::{Chains, Loads, PLACES, ROWS};
 use states::Cell;
@@ -52,41 +51,23 @@ fn least_of(x: u64, y: u64, z: u64) -> usize
     usize::from(y < x)
 }
 
-// How much of the surplus e a wire takes; the wires after it have the row at `at`.
-fn share(rows: &[u32; ROWS], at: usize, last: usize, e: usize, l: Loads) -> usize
-    requires last_in_bounds { at + last < length rows.now }
+// How much of the surplus e a wire takes that hands up l; the m wires after it have their row.
+fn share(rows: &[u32; ROWS], m: usize, e: usize, l: Loads) -> usize
+    requires m_bound { m ≤ most_children }
     requires loads_bound { (l.least ≤ 1000000) × (l.one ≤ 1000000) × (l.two ≤ 1000000) }
-    requires by_index { (k : ℕ) → load_at rows.now at last k ≤ 2000000000 }
-    ensures { Shared (load_at rows.now at last) e l.least l.one l.two result }
+    requires by_index { (k : ℕ) → load_at rows.now (m * m) (m * 2) k ≤ 2000000000 }
+    ensures { Shared (load_at rows.now (m * m) (m * 2)) e l.least l.one l.two result }
 {
     if e == 0 {
         return 0;
     }
-    let x = l.least + rows::load_at(rows, at, last, e);
-    let y = l.one + rows::load_at(rows, at, last, e - 1);
+    let x = l.least + rows::load_at(rows, m, e);
+    let y = l.one + rows::load_at(rows, m, e - 1);
     if e == 1 {
         return usize::from(y < x);
     }
-    let z = l.two + rows::load_at(rows, at, last, e - 2);
+    let z = l.two + rows::load_at(rows, m, e - 2);
     least_of(x, y, z)
-}
-
-// What wire j takes of e; the row of the m wires after it stands at the square of m.
-fn part_at(
-    c: Cell,
-    rows: &[u32; ROWS],
-    chains: &Chains,
-    p: usize,
-    j: usize,
-    m: usize,
-    e: usize,
-) -> usize
-    requires p_bound { (p ≤ 1) × (j < most_places) × (m ≤ most_children) }
-    requires j_bound { (lo_at chains.now.slots p j ≤ 1000000) × (hi_at chains.now.slots p j ≤ 1000000) }
-    requires by_index { (k : ℕ) → load_at rows.now (m * m) (m * 2) k ≤ 2000000000 }
-    ensures { PartIs (model_of c) rows.now chains.now.slots p j m e result }
-{
-    share(rows, m * m, m * 2, e, chains.loads(c, p, j))
 }
 
 // Deals a surplus of e out to the n wires from k on under a point; the row of the last m of them stands at the square of m.
@@ -107,7 +88,7 @@ fn deal_more(
     let mut left = e;
     let mut j = k;
     for m in (0..n).rev() {
-        let s = part_at(c, rows, chains, p, j, m, left);
+        let s = share(rows, m, left, chains.loads(c, p, j));
         parts[j] = s as u8;
         left -= s;
         j = chains.next(j);

@@ -49,15 +49,6 @@ use Rattle.walk.specs.Steps.{Handed}
 use Rattle.inverted.specs.Source.{at_sense, Picks, Rooted}
 
 -- ---- which polarity
-pub picks_second : (a b : State) → a ≡ lost → Picks a b 1
-picks_second a b e = record { few = omega arith; is = λ N x y q. (x, y, sym (ap (λ (s : State). merge s b) e) ∙ q) }
-
-pub picks_first : (a b : State) (m x y : ℕ) → a ≡ has m x y → b ≡ lost → Picks a b 0
-picks_first a b m x y e f = record { few = omega arith; is = λ N u v q. (x, y, e ∙ ap (λ (k : ℕ). has k x y) (same N u v q)) }
-  where
-    same : (N u v : ℕ) → merge a b ≡ has N u v → m ≡ N
-    same N u v q = let r : has m x y ≡ has N u v = sym (ap (λ (s : State). merge s lost) e) ∙ ap (merge a) (sym f) ∙ q in cc
-
 least_of : (a b : State) (m x y n u v : ℕ) → a ≡ has m x y → b ≡ has n u v → (N p q : ℕ) → merge a b ≡ has N p q → N ≡ min m n
 least_of a b m x y n u v e f N p q r = merge_least m x y n u v N p q (sym (ap (λ (s : State). merge s (has n u v)) e) ∙ ap (merge a) (sym f) ∙ r)
 

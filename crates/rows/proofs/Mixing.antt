@@ -1,12 +1,12 @@
 -- A row with one wire more, made from the first load to the last past the row that is read, which stays as it was.
 use Prim.Native.Nat.{ℕ, ◌+◌, ◌≤◌, ◌<◌, min}
-use mathlib.Core.Path.{◌≡◌, refl, ap, ◌∙◌}
+use mathlib.Core.Path.{◌≡◌, ap, ◌∙◌}
 use mathlib.Core.List.{List}
 use native.Mathlib.Omega.{arith}
 use native.Mathlib.Decide.{ℕ_discrete}
 use lib.ListN.{length, get_or, set, length-set}
 use lib.Seq.{get_or-set_same, get_or-set_other}
-use Rattle.surplus.specs.Rows.{load_at, mixed, Mixed}
+use Rattle.surplus.specs.Rows.{load_at, mixed}
 
 -- the first e places are made
 pub record Mixing (t₀ t : List ℕ) (from last to a b c e : ℕ) : Type 0 where
@@ -18,16 +18,10 @@ pub record Mixing (t₀ t : List ℕ) (from last to a b c e : ℕ) : Type 0 wher
   pub after : (j : ℕ) → to + e ≤ j → get_or t j 0 ≡ get_or t₀ j 0
   pub row : (k : ℕ) → k < e → get_or t (to + k) 0 ≡ mixed (load_at t₀ from last) a b c k
 
-pub mixing_none : (t : List ℕ) (from last to a b c : ℕ) → from + last < to → to + (last + 3) ≤ length t → Mixing t t from last to a b c 0
-mixing_none t from last to a b c h r = record { few = omega arith; apart = h; room = r; long = refl; before = λ j h. refl; after = λ j h. refl; row = λ k h. absurd (omega arith) }
-
 module _ {t₀ t : List ℕ} {from last to a b c e : ℕ} (m : Mixing t₀ t from last to a b c e) where
   -- what is read
   reads : (k : ℕ) → load_at t from last k ≡ load_at t₀ from last k
   reads k = m.before (from + min k last) (omega (arith, m.apart))
-
-  pub mixing_small : (l : ℕ) → ((k : ℕ) → load_at t₀ from last k ≤ l) → (k : ℕ) → load_at t from last k ≤ l
-  mixing_small l h k = rw (reads k) (h k)
 
   pub mixing_more : (x : ℕ) → x ≡ mixed (load_at t from last) a b c e → e < last + 3 → Mixing t₀ (set t (to + e) x) from last to a b c (e + 1)
   mixing_more x q lt = record {
@@ -42,6 +36,3 @@ module _ {t₀ t : List ℕ} {from last to a b c e : ℕ} (m : Mixing t₀ t fro
       | no ne ↦ get_or-set_other t (to + e) (to + k) x 0 (λ s. ne (omega arith)) ∙ m.row k (omega arith)
     ];
   }
-
-  pub mixing_all : last + 3 ≤ e → Mixed t₀ t from last to a b c
-  mixing_all h = record { long = m.long; before = m.before; after = λ j l. m.after j (omega (arith, m.few)); row = λ k l. m.row k (omega arith) }

@@ -71,44 +71,43 @@ pub struct Loads {
     pub two: u64,
 }
 
-// The load for a surplus of e in the row at `at`, which no longer falls past `last`.
-pub fn load_at(rows: &[u32; ROWS], at: usize, last: usize, e: usize) -> u64
-    requires { at + last < length rows.now }
-    ensures { result ≡ load_at rows.now at last e }
+// The load for a surplus of e in the row of m wires: it no longer falls past twice as many.
+pub fn load_at(rows: &[u32; ROWS], m: usize, e: usize) -> u64
+    requires { m ≤ most_children }
+    ensures { result ≡ load_at rows.now (m * m) (m * 2) e }
 {
-    rows[at + e.min(last)] as u64
+    rows[m * m + e.min(m * 2)] as u64
 }
 
-// One load of a row with one wire more, which takes 0, 1 or 2 of the surplus e.
-fn mixed_at(rows: &[u32; ROWS], at: usize, last: usize, e: usize, l: Loads) -> u64
-    requires last_in_bounds { at + last < length rows.now }
+// One load of the row with one wire more than m, which takes 0, 1 or 2 of the surplus e.
+fn mixed_at(rows: &[u32; ROWS], m: usize, e: usize, l: Loads) -> u64
+    requires m_bound { m ≤ most_children }
     requires loads_bound { (l.least ≤ 1000000) × (l.one ≤ 1000000) × (l.two ≤ 1000000) }
-    requires by_index { (k : ℕ) → load_at rows.now at last k ≤ 2000000000 }
-    ensures { result ≡ mixed (load_at rows.now at last) l.least l.one l.two e }
+    requires by_index { (k : ℕ) → load_at rows.now (m * m) (m * 2) k ≤ 2000000000 }
+    ensures { result ≡ mixed (load_at rows.now (m * m) (m * 2)) l.least l.one l.two e }
 {
-    let x = l.least + load_at(rows, at, last, e);
+    let x = l.least + load_at(rows, m, e);
     if e == 0 {
         return x;
     }
-    let y = l.one + load_at(rows, at, last, e - 1);
+    let y = l.one + load_at(rows, m, e - 1);
     if e == 1 {
         return x.min(y);
     }
-    let z = l.two + load_at(rows, at, last, e - 2);
+    let z = l.two + load_at(rows, m, e - 2);
     x.min(y.min(z))
 }
 
 // The row of m + 1 wires, out of that of the m wires after the first of them, whose loads are l.
 fn mix(rows: &mut [u32; ROWS], m: usize, l: Loads)
-    requires m_lt_most_children { m < most_children }
+    requires m_bound { m < most_children }
     requires loads_bound { (l.least ≤ 1000000) × (l.one ≤ 1000000) × (l.two ≤ 1000000) }
     requires by_index { (k : ℕ) → load_at rows.old (m * m) (m * 2) k ≤ 2000000000 }
     ensures { Mixed rows.old rows.new (m * m) (m * 2) ((m + 1) * (m + 1)) l.least l.one l.two }
 {
-    let last = m * 2;
     let to = (m + 1) * (m + 1);
-    for e in 0..last + 3 {
-        rows[to + e] = mixed_at(rows, m * m, last, e, l) as u32;
+    for e in 0..m * 2 + 3 {
+        rows[to + e] = mixed_at(rows, m, e, l) as u32;
     }
 }
 
@@ -127,13 +126,13 @@ pub fn spread(c: Cell, rows: &mut [u32; ROWS], chains: &Chains, p: usize, k: usi
     m + 1
 }
 
-// The least surplus up to `last` at which the load fits.
-fn first_fit(rows: &[u32; ROWS], at: usize, last: usize, limit: u64) -> Option<usize>
-    requires { at + last < length rows.now }
-    ensures { MatchOption result (FirstFit rows.now at last limit (last + 1)) (λ e. (e ≤ last) × FirstFit rows.now at last limit e) }
+// The least surplus at which a load of the row of m wires fits.
+fn first_fit(rows: &[u32; ROWS], m: usize, limit: u64) -> Option<usize>
+    requires { m ≤ most_children }
+    ensures { MatchOption result (FirstFit rows.now (m * m) (m * 2) limit (m * 2 + 1)) (λ e. (e ≤ m * 2) × FirstFit rows.now (m * m) (m * 2) limit e) }
 {
-    for e in 0..last + 1 {
-        if rows[at + e] as u64 <= limit {
+    for e in 0..m * 2 + 1 {
+        if load_at(rows, m, e) <= limit {
             return Some(e);
         }
     }
@@ -145,15 +144,13 @@ fn close_row(c: Cell, rows: &[u32; ROWS], m: usize) -> Closed
     requires { m ≤ most_children }
     ensures { CloseIs (model_of c) rows.now m result.load result.more result.over }
 {
-    let at = m * m;
-    let last = m * 2;
-    let Some(e) = first_fit(rows, at, last, c.limit) else {
+    let Some(e) = first_fit(rows, m, c.limit) else {
         return Closed::NONE;
     };
-    let least = load_at(rows, at, last, e);
-    let more = least.min(load_at(rows, at, last, e + 1));
+    let load = load_at(rows, m, e);
+    let more = load.min(load_at(rows, m, e + 1));
     Closed {
-        load: least as u32,
+        load: load as u32,
         more: more as u32,
         over: (e + 1) as u32,
     }

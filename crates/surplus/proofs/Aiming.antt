@@ -1,5 +1,5 @@
 -- Laws of a wire's target, and of the polarity below a wire.
-use Prim.Native.Nat.{ℕ, zero, suc, ◌+◌, ◌-◌, ◌%◌, ◌≤◌, ◌<◌}
+use Prim.Native.Nat.{ℕ, zero, suc, ◌+◌, ◌-◌, ◌%◌, ◌≤◌}
 use mathlib.Core.Path.{◌≡◌, refl, subst}
 use mathlib.Core.Logic.{◌⊎◌, inl, inr}
 use native.Mathlib.Omega.{arith}
@@ -12,24 +12,9 @@ use Rattle.surplus.proofs.Attaining.{wire_met}
 
 -- ---- the target
 module _ (τ : Cell) (m a b : ℕ) where
-  pub aim_1 : (s : ℕ) → s ≡ 1 → Aim τ s m a b (m + 1) b 0
-  aim_1 zero e = absurd (omega arith)
-  aim_1 (suc zero) e = record { which = inr (omega arith, refl); count = omega arith; turns = omega arith; few = omega arith; plain = λ z. omega arith; topped = λ z. absurd (omega arith) }
-  aim_1 (suc (suc s)) e = absurd (omega arith)
-
   pub aim_0 : (s : ℕ) → s ≡ 0 → Aim τ s m a b m a 0
   aim_0 zero e = record { which = inl (refl, refl); count = omega arith; turns = omega arith; few = omega arith; plain = λ z. omega arith; topped = λ z. absurd (omega arith) }
   aim_0 (suc s) e = absurd (omega arith)
-
-  pub aim_low : (s : ℕ) → (s ≡ 0 → ⊥) → (s ≡ 1 → ⊥) → a ≤ τ.cb → Aim τ s m a b m a 0
-  aim_low zero h g l = absurd (h refl)
-  aim_low (suc zero) h g l = absurd (g refl)
-  aim_low (suc (suc s)) h g l = record { which = inl (refl, refl); count = omega arith; turns = omega arith; few = omega arith; plain = λ z. omega arith; topped = λ z. absurd (omega arith) }
-
-  pub aim_more : (s : ℕ) → (s ≡ 0 → ⊥) → (s ≡ 1 → ⊥) → τ.cb < a → Aim τ s m a b m a 2
-  aim_more zero h g l = absurd (h refl)
-  aim_more (suc zero) h g l = absurd (g refl)
-  aim_more (suc (suc s)) h g l = record { which = inl (refl, refl); count = omega arith; turns = omega arith; few = omega arith; plain = λ z. absurd (omega arith); topped = λ z. omega arith }
 
 -- the target can be met
 pub aim_met : (τ : Cell) (w s m a b m' l k : ℕ) (x y : State) → wire_of τ inv w x y ≡ has m a b → Aim τ s m a b m' l k → Meets τ w x y m' l

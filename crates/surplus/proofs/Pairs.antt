@@ -56,16 +56,6 @@ module _ (τ : Cell) where
   close_at_not (suc n) m e g o =
       ifz_no (g e - τ.cu) _ _ (omega (arith, o e (omega arith) (omega arith))) ∙ close_at_not n m (suc e) g (λ k l h. o k (omega arith) (omega arith))
 
-  -- where the first load fits the surplus is 0, and no row is needed
-  pub near_fits : (last c x y : ℕ) (z : Acc) → PairOf c x y z → (c ≡ 0 → ⊥) → x ≤ τ.cu → NearOf τ last z x (min x y) 1
-  near_fits last c x y fail q ne h = absurd (ne q)
-  near_fits last c x y (all m g) q ne h =
-      (omega arith, record { over = λ k l. absurd (omega arith); fits = omega (arith, q.1) }, q.1, rw (q.1, q.2))
-
-  pub near_dead : (last c x y h h₁ : ℕ) (z : Acc) → PairOf c x y z → c ≡ 0 → NearOf τ last z h h₁ 0
-  near_dead last c x y h h₁ fail q e = refl
-  near_dead last c x y h h₁ (all m g) q e = absurd (omega (arith, q.0))
-
   -- what is kept of the node is its state
   pub near_state_lem : (last c x y h h₁ o : ℕ) (z : Acc) → PairOf c x y z → NearOf τ last z h h₁ o → close τ last z ≡ near_state c h h₁ o
   unfolding close
@@ -95,18 +85,3 @@ module _ (τ : Cell) where
   near_1_same last h h₁ E n l (all m g) k le u =
       let v : Under (has (m + E) (g E) (min (g E) (g (suc E)))) 1 n l = subst (λ (s : State). Under s 1 n l) (close_at_is last m 0 E g (omega arith) (omega (arith, k.0)) k.1) u in
       (omega (arith, v.0), omega (arith, v.1, k.2, k.3))
-
--- ---- the state, read off what is kept
-pub state_lost : (c h h₁ o : ℕ) → c ≡ 0 → lost ≡ near_state c h h₁ o
-state_lost zero h h₁ o e = refl
-state_lost (suc m) h h₁ o e = absurd (omega arith)
-
-pub state_none : (c h h₁ o : ℕ) → o ≡ 0 → lost ≡ near_state c h h₁ o
-state_none zero h h₁ o e = refl
-state_none (suc m) h h₁ zero e = refl
-state_none (suc m) h h₁ (suc E) e = absurd (omega arith)
-
-pub state_has : (c h h₁ o : ℕ) → (c ≡ 0 → ⊥) → (o ≡ 0 → ⊥) → has (c - 1 + (o - 1)) h h₁ ≡ near_state c h h₁ o
-state_has zero h h₁ o n k = absurd (n refl)
-state_has (suc m) h h₁ zero n k = absurd (k refl)
-state_has (suc m) h h₁ (suc E) n k = let q : suc m - 1 + (suc E - 1) ≡ m + E = omega arith in rw q

@@ -16,8 +16,7 @@ use Rattle.surplus.specs.Links.{Chain}
 use Rattle.surplus.specs.Tables.{next_at, lo_at, hi_at, zero_at, one_at, count_at}
 use Rattle.surplus.specs.Asks.{SmallTip, Smalls, Runs, Rows, CloseIs, ClosedIs, AsksClose, to_end}
 use Rattle.surplus.proofs.Chains.{Split, split, rest_alive, chain_none, chain_more, chain_first, chain_rest, kept_loads, each_rest, ordered_rest, width_rest}
-use Rattle.surplus.proofs.Pairs.{near_dead, near_fits}
-use Rattle.surplus.proofs.Spreading.{square_suc, below, spread_none, spread_row, spread_more}
+use Rattle.surplus.proofs.Spreading.{spread_none, spread_row, spread_more}
 
 smalls_tip : (τ : Cell) (p : ℕ) (x : Hanging) → More x → Smalls τ p x → SmallTip (tip τ p x)
 smalls_tip τ p none h s = absurd h
@@ -66,9 +65,6 @@ module _ {τ : Cell} {links : List ℕ} {slots : List Slot} {p k : ℕ} {f : Han
 
   pub rows_none : (t : List ℕ) → k ≡ 0 → get_or t 0 0 ≡ 0 → Rows τ t p 0 f
   rows_none t z q = subst (Rows τ t p 0) (sym (runs_none z)) (record { wide = refl; spread = spread_none τ t p q })
-
-  pub rows_few : (t : List ℕ) (m : ℕ) → Rows τ t p m f → m ≤ most_children
-  rows_few t m r = omega (arith, r.wide, a.few)
 
   -- a wire and those after it
   module _ (ne : k ≡ 0 → ⊥) where
@@ -132,15 +128,6 @@ module _ {τ : Cell} {links : List ℕ} {slots : List Slot} {p k : ℕ} {f : Han
                 (subst (λ (z : ℕ). Mixed t u (z * z) (2 * z) (suc z * suc z) worth.a worth.b (min worth.a τ.cb)) (sym r.wide) y);
           }
 
--- the next row is past this one, and both are within
-pub row_room : (m : ℕ) → m < most_children → (m * m + m * 2 < (m + 1) * (m + 1)) × ((m + 1) * (m + 1) + (m * 2 + 3) ≤ (most_children + 1) * (most_children + 1))
-row_room m h =
-    let d : (m + 1) * (m + 1) ≡ suc m * suc m = let e : m + 1 ≡ suc m = omega arith in rw e in
-    (omega (arith, d, square_suc m), omega (arith, d, below (suc m) (most_children + 1) (omega arith)))
-
-pub rows_within : (m : ℕ) → m ≤ most_children → m * m + m * 2 < (most_children + 1) * (most_children + 1)
-rows_within m h = omega (arith, below m (most_children + 1) (omega arith))
-
 -- ---- the node's state out of its row
 pub rows_close : (τ : Cell) (t : List ℕ) (p m h h₁ o : ℕ) (f : Hanging) → Rows τ t p m f → CloseIs τ t m h h₁ o → ClosedIs τ p f h h₁ o
 rows_close τ t p m h h₁ o f r c =
@@ -153,12 +140,6 @@ slot_alive c x y fail q ne = ne q
 slot_alive c x y (all m g) q ne = tt
 
 module _ {τ : Cell} {links : List ℕ} {slots : List Slot} {p k : ℕ} {f : Hanging} (a : AsksClose τ links slots p k f) where
-  pub close_dead : count_at slots p k ≡ 0 → ClosedIs τ p f 0 0 0
-  close_dead z = near_dead τ (2 * width f) (count_at slots p k) (zero_at slots p k) (one_at slots p k) 0 0 (acc τ f p) a.slot z
-
   module _ (ne : count_at slots p k ≡ 0 → ⊥) where
-    pub close_fits : zero_at slots p k ≤ τ.cu → ClosedIs τ p f (zero_at slots p k) (min (zero_at slots p k) (one_at slots p k)) 1
-    close_fits h = near_fits τ (2 * width f) (count_at slots p k) (zero_at slots p k) (one_at slots p k) (acc τ f p) a.slot ne h
-
     pub close_runs : Runs τ links slots p k f
     close_runs = a.runs (slot_alive (count_at slots p k) (zero_at slots p k) (one_at slots p k) (acc τ f p) a.slot ne)

@@ -1,15 +1,15 @@
 -- One turn of the way up: what it asks of each call follows from the tables so far.
 use Prim.Native.Nat.{ℕ, zero, suc, ◌+◌, ◌-◌, ◌*◌, ◌≤◌, ◌<◌, max}
-use mathlib.Core.Path.{◌≡◌, refl, sym, subst, ap, ◌∙◌}
+use mathlib.Core.Path.{◌≡◌, sym, subst, ap, ◌∙◌}
 use mathlib.Core.List.{List}
 use native.Mathlib.Omega.{arith}
 use lib.ListN.{set}
 use Rattle.rules.specs.Figures.{most_places}
 use Rattle.rules.specs.Net.{Net, places, parent, kind, pin, polarity}
-use Rattle.rules.specs.Tree.{Hanging, hanging, under}
+use Rattle.rules.specs.Tree.{hanging, under}
 use Rattle.rules.specs.Sound.{SoundNet}
 use Rattle.frontier.specs.Cell as model
-use Rattle.frontier.specs.Frontier.{State, leaf, acc}
+use Rattle.frontier.specs.Frontier.{State, acc}
 use Rattle.states.specs.declared.Cell.{Cell}
 use Rattle.states.specs.States.{model_of, CellOk, SmallS, Falls, wire_of}
 use Rattle.states.proofs.Leaves.{small_up}
@@ -19,7 +19,7 @@ use Rattle.surplus.specs.declared.Closed.{Closed}
 use Rattle.surplus.specs.Wires.{node_at, lift_of}
 use Rattle.surplus.specs.Links.{First}
 use Rattle.surplus.specs.Tables.{head_at, side, near_of, state_of, count_at, Small, SlotSmall, Hung, NodeNear, WiresJoined, NodesClosed}
-use Rattle.surplus.specs.Asks.{ClosedIs, AsksClose}
+use Rattle.surplus.specs.Asks.{AsksClose}
 use Rattle.surplus.proofs.Bounds.{acc_small, node_small, lift_small}
 use Rattle.surplus.proofs.Hanging.{slot_small, count_small}
 use Rattle.surplus.proofs.Cutting.{lift_is}
@@ -28,14 +28,6 @@ use Rattle.surplus.proofs.Filling.{own_first, closed_at, joined_more, node_tidy,
 use Rattle.tables.specs.Turns.{SideIs, Hangs}
 
 -- ---- a node's state, by its kind
-pub side_branch : (τ : model.Cell) (k c s q : ℕ) (f : Hanging) (r : Closed) → k ≡ 0 → ClosedIs τ q f r.load r.more r.over → SideIs τ k c s q f r
-side_branch τ zero c s q f r e h = h
-side_branch τ (suc k) c s q f r e h = absurd (omega arith)
-
-pub side_sink : (τ : model.Cell) (k c s q : ℕ) (f : Hanging) (r : Closed) → (k ≡ 0 → ⊥) → leaf τ c s q ≡ state_of 1 r → SideIs τ k c s q f r
-side_sink τ zero c s q f r ne h = absurd (ne refl)
-side_sink τ (suc k) c s q f r ne h = h
-
 side_near : (τ : model.Cell) (n : Net) (i q k : ℕ) (r : Closed) → SideIs τ k (pin n i) (polarity n i) q (under n i) r → NodeNear τ n q i k r
 side_near τ n i q zero r h = h
 side_near τ n i q (suc k) r h = h
@@ -94,9 +86,6 @@ module _ {c : Cell} (ok : CellOk c) {n : Net} {w : ℕ} {links : List ℕ} {slot
         let l : parent n i < i = g.sound.lower i g.lo g.here in
         let m : max (suc i) (suc (parent n i)) ≡ suc i = omega arith in
         rw (e, g.parent) (subst (λ (z : ℕ). First n z (parent n i) (head_at links (parent n i))) m (g.joined.linked.heads (parent n i) (omega (arith, g.here))))
-
-    pub after_low : k < most_places
-    after_low = omega (arith, after.low, g.sound.few)
 
     pub after_small : (p : ℕ) → p ≤ 1 → SlotSmall slots p k
     after_small p lp =

@@ -86,9 +86,6 @@ module _ {c : Cell} (ok : CellOk c) {n : Net} {w : ℕ} {links : List ℕ} {slot
   pub wire_low : i < most_places
   wire_low = omega (arith, t.here, t.sound.few)
 
-  pub next_low : next_at links i < most_places
-  next_low = omega (arith, (t.joined.linked.nexts i t.lo t.here).low, t.sound.few)
-
   pub head_low : head_at links i < most_places
   head_low = omega (arith, (own_first (model_of c) t.sound t.joined (omega arith) t.here).low, t.sound.few)
 
@@ -147,9 +144,6 @@ module _ {c : Cell} (ok : CellOk c) {n : Net} {w : ℕ} {links : List ℕ} {slot
 
     there : (f : ℕ) × Met (model_of c) 0 w x t.parts.m t.parts.a 0 f 0
     there = met x refl y
-
-    pub stays_some : 1 ≤ (near_of near p i).over
-    stays_some = some ok own t.low x 0 there.1.n there.0 (is_node ok own t.low ex) there.1.under
 
     pub decided_bare : (r : ℕ) → Owes 0 (near_of near p i).load (near_of near p i).more ((near_of near p i).over - 1) r → Decided (model_of c) n p s i t.parts p r 0 0 0
     unfolding own targeted

@@ -30,7 +30,7 @@ mix-requires t c =
     let l = c.loads.ensures in
     let m = c.spread-m.ensures (rest s.f) (tail_runs s.runs ne _ c.next.ensures) in
     record {
-      m_lt_most_children = tail_few s.runs ne _ _ m;
+      m_bound = tail_few s.runs ne _ _ m;
       loads_bound = (omega (arith, l.0, w), omega (arith, l.1, w), omega (arith, l.2, w));
       by_index = tail_small s.runs ne _ _ m;
     }

@@ -12,4 +12,4 @@ pub returns : goal.returns
 returns c =
     λ z r.
     let e : c.in-Some.e + 1 ≡ suc c.in-Some.e = omega arith in
-    rw (c.min-more.ensures, c.load_at-least.ensures, c.load_at.ensures, e) (near_row _ _ _ _ _ z r c.in-Some.ensures.1 c.in-Some.ensures.0)
+    rw (c.min-more.ensures, c.load_at-load.ensures, c.load_at.ensures, e) (near_row _ _ _ _ _ z r c.in-Some.ensures.1 c.in-Some.ensures.0)
