@@ -1,17 +1,16 @@
 -- The order of the checker's refusals: how the answers of its parts make up the verdict.
 use Rattle.std.specs.Prelude.{Ok, Err}
-use Prim.Native.Nat.{ℕ, ◌+◌, ◌≤◌, ◌<◌}
+use Prim.Native.Nat.{ℕ, ◌+◌}
 use mathlib.Core.Path.{◌≡◌, sym, ◌∙◌}
 use mathlib.Core.List.{List}
 use native.Mathlib.Omega.{arith}
 use lib.Dec.{leb}
 use lib.ListN.{length}
-use borrow.Author.Tests.{le-leb, lt-leb}
 use Rattle.rules.specs.Judged.{Judged}
 use Rattle.rules.specs.declared.Refusal.{Refusal}
 use Rattle.rules.specs.declared.Refusal.TheVariants.{WrongColumns, Overloaded}
 use Rattle.rules.specs.Net.{Net}
-use Rattle.rules.specs.Load.{entries, offsets_on, driven, source_drives, drivers, load_below}
+use Rattle.rules.specs.Load.{entries, offsets_on, driven, source_drives, drivers}
 use Rattle.rules.specs.Legal.{start}
 use Rattle.rules.specs.Judge.{unless, then_judge, judged}
 use Rattle.rules.specs.Checked.{placement_fits, placed_from, within_limit, one_sense, placement_judged, checked}
@@ -38,17 +37,6 @@ module _ {n : Net} {vs os : List ℕ} (p : Placed n vs os) where
 
   pub loads_within : Ok tt ≡ within_limit n.limits.limit 0 (driven n (offsets_on (entries vs os))) → settled n vs os ≡ weighed n vs os
   loads_within e = sym (parts ∙ rw (← e))
-
-module _ (n : Net) (vs os : List ℕ) (x : ℕ) (ex : x ≡ load_below n (offsets_on (entries vs os)) 0) where
-  pub source_over : n.limits.limit < x → Err (Overloaded (length vs)) ≡ settled n vs os
-  source_over l = rw (← ex, lt-leb x n.limits.limit l)
-
-  module _ (l : x ≤ n.limits.limit) where
-    pub senses_over : (r : Refusal) → Err r ≡ one_sense n (offsets_on (entries vs os)) → Err r ≡ settled n vs os
-    senses_over r e = rw (← ex, le-leb x n.limits.limit l, ← e)
-
-    pub all_legal : Ok tt ≡ one_sense n (offsets_on (entries vs os)) → Ok (record { count = length vs; source = x }) ≡ settled n vs os
-    all_legal e = rw (← ex, le-leb x n.limits.limit l, ← e)
 
 -- ---- the whole
 module _ (n : Net) (vs os : List ℕ) where

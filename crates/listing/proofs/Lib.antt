@@ -1,5 +1,4 @@
 -- What the proofs of several functions use.
 pub mod Stored
-pub mod Answers
 pub mod Numbers
 pub mod Determined

@@ -1,5 +1,4 @@
 use native.Mathlib.Omega.{arith}
-use Rattle.load.proofs.Parts.{offsets_all}
 use Rattle.load.proofs.Wire.{wire_within}
 use Rattle.senses.proofs.Inverters.{counted_clear, counted_entry}
 use Rattle.senses.proofs.count_turns.Goals as goal
@@ -12,9 +11,6 @@ bounds-odd-on c = omega (arith, wire_within c.requires.placed c.loop-wire.wire-i
 
 pub loop-wire-preserved : goal.loop-wire-preserved
 loop-wire-preserved c = counted_entry c.args.placement.now.wires.now c.args.placement.now.offsets.now c.loop-wire.wire-index c.loop-wire.invariant c.requires.placed.even (omega arith) (omega (arith, wire_within c.requires.placed c.loop-wire.wire-index (omega arith), c.requires.placed.sound.few))
-
-pub returns : goal.returns
-returns c = rw (offsets_all c.args.placement.now.wires.now c.args.placement.now.offsets.now c.loop-wire.wire-index c.requires.placed.even (omega arith)) at c.loop-wire.invariant
 
 pub bounds-odd-on-in-loop-wire : goal.bounds-odd-on-in-loop-wire
 bounds-odd-on-in-loop-wire c = omega (arith, wire_within c.requires.placed c.loop-wire.wire-index (omega arith), c.requires.placed.sound.few)
