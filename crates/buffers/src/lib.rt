@@ -157,10 +157,12 @@ impl Tables {
         requires blank { Going (model_of c) (net_of net.now) (leads_in leads.now) self.old (places (net_of net.now)) (places (net_of net.now)) }
         ensures { Tried (model_of c) (net_of net.now) (leads_in leads.now) self.new 1 0 result }
     {
+        // A copy of the slices, which the compiler need not read again after each write to the tables.
+        let net = *net;
         for i in (1..net.parent.len()).rev() {
-            self.ease_node(c, net, i)?;
-            self.push_wire(c, net, leads, i);
+            self.ease_node(c, &net, i)?;
+            self.push_wire(c, &net, leads, i);
         }
-        self.ease_node(c, net, 0)
+        self.ease_node(c, &net, 0)
     }
 }

@@ -117,7 +117,8 @@ impl Cell {
         Cell {
             limit: u64::from(limits.limit),
             pin: u64::from(limits.pin),
-            span: u64::from(limits.limit - limits.pin),
+            // Written so that the compiler sees that it is not 0, and tests no divisor in the loops that divide by it.
+            span: u64::from(limits.limit - limits.pin - 1) + 1,
             repeater: limits.repeater,
         }
     }
