@@ -15,8 +15,8 @@ use rules::{LentNet, LentPlacement};
 // The places of a table over nodes.
 pub const PLACES: usize = 1025;
 
-// The tables that the loads are told from. Of a wire: what it hands up by itself, and whether it asks no further down. Of a node: how far past it, less one, its
-// first child is, and how far its last.
+// The tables that the loads are told from. Of a wire: what it hands up by itself, and whether it asks no further down.
+// Of a node: how far past it, less one, its first child is, and how far its last.
 #[derive(Drop)]
 pub struct Tables {
     pub own: [u32; PLACES],
@@ -173,7 +173,8 @@ pub fn make_tables(net: &LentNet, placement: &LentPlacement, tables: &mut Tables
     cut_parts(net, placement, &mut tables.own, &mut tables.shut);
 }
 
-// What lies below a branch point or the source: the sum of what the wires below it hand up. The tables spare the search before its first child and past its last.
+// What lies below a branch point or the source: the sum of what the wires below it hand up.
+// The tables spare the search before its first child and past its last.
 #[cycle(handed_up_load_below)]
 pub fn load_below(parent: &[u16], tables: &Tables, node: usize) -> u64
     requires { AskedNode parent.now tables.now node }
