@@ -1,7 +1,6 @@
 -- RULES 3.2 to 3.4: one table of tags and widths, and from it both what a file says at a place and the bytes of a field.
-use Rattle.std.specs.Prelude.{Ok, Err, Result}
+use Rattle.std.specs.Prelude.{Ok, Err, Result, ℕ, zero, suc, ◌+◌, ◌*◌, ◌/◌, ◌%◌, ◌<◌, ◌^◌, List, [], ◌∷◌, ◌++◌, Bool, length, get_or, drop, ltb, eqb}
 use Rattle.field.specs.declared.Field.{Field}
-use Rattle.std.specs.Prelude.{ℕ, zero, suc, ◌+◌, ◌*◌, ◌/◌, ◌%◌, ◌<◌, ◌^◌, List, [], ◌∷◌, ◌++◌, Bool, length, get_or, drop, ltb, eqb}
 use Rattle.std.proofs.lemmas.List.Edits.{sets}
 use Rattle.rules.specs.Choose.{pick}
 use Rattle.rules.specs.Refusal.{number_of, place_of}

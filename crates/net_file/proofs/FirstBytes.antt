@@ -103,12 +103,12 @@ pub first_bytes : (s : List ℕ) (n : ℕ) → AreBytes s → most_bytes < n →
 first_bytes s n by h = by_first net_of most_bytes (λ u v a. alike_read a) s n by h
 
 -- a net's file ends within those bytes
-sound_ends : (s : List ℕ) (n : Net) (size k at i : ℕ) → fields_judged n size i (fields_from k s at) ≡ (Ok tt) → size ≤ at + 14 * k
+sound_ends : (s : List ℕ) (n : Net) (size k at i : ℕ) → fields_judged n size i (fields_from k s at) ≡ Ok tt → size ≤ at + 14 * k
 unfolding fields_from fields_judged
 sound_ends s n size zero at i e = never (cc)
 sound_ends s n size (suc k) at i e = on (taken_at s at) refl e (λ next. sound_ends s n size k next (suc i))
   where
-    on : (t : Result (Option Taken) Refusal) → taken_at s at ≡ t → fields_judged n size i (follow at t (fields_from k s)) ≡ (Ok tt) → ((next : ℕ) → fields_judged n size (suc i) (fields_from k s next) ≡ (Ok tt) → size ≤ next + 14 * k)
+    on : (t : Result (Option Taken) Refusal) → taken_at s at ≡ t → fields_judged n size i (follow at t (fields_from k s)) ≡ Ok tt → ((next : ℕ) → fields_judged n size (suc i) (fields_from k s next) ≡ Ok tt → size ≤ next + 14 * k)
         → size ≤ at + 14 * suc k
     on (Ok (Some t)) q j later = omega (arith, near s at t.node t.next q, later t.next (then_met (node_judged n i at) _ j).1)
     on (Ok None) q j later = omega (arith, leb-true size (at + 3) (unless_met _ (BytesAfterEnd (at + 3)) (then_met (unless (leb size (at + 3)) (BytesAfterEnd (at + 3))) (childed n) j).0))

@@ -59,7 +59,7 @@ pub record Holds (s : List ℕ) (m : ℕ) (l : Limits) (left : Net) : Type 0 whe
   pub few : m ≤ most_places
   pub long : Roomy left
   pub is : net_of s ≡ read (first_places m l left)
-  pub sound : judged (first_places m l left) ≡ (Ok tt)
+  pub sound : judged (first_places m l left) ≡ Ok tt
 
 roomy_still : {lent left : Net} (n : Net) → Roomy lent → left ≡ laid_over lent 0 n → Roomy left
 roomy_still {lent} n r e =

@@ -57,8 +57,8 @@ read_net_numbers {s} {lent} a k p = subst (λ (x : Result NetRead Refusal). Read
 -- ---- writing: the number k, with the bytes written or needed, or the refusal of the columns, which is the judge's
 
 pub data WriteRow (n : Net) (out : List ℕ) (k p : ℕ) : Type 0 where
-  written_whole : judged n ≡ (Ok tt) → length (net_bytes n) ≤ length out → k ≡ 0 → p ≡ length (net_bytes n) → WriteRow n out k p
-  no_bytes : judged n ≡ (Ok tt) → length out < length (net_bytes n) → k ≡ 9 → p ≡ length (net_bytes n) → WriteRow n out k p
+  written_whole : judged n ≡ Ok tt → length (net_bytes n) ≤ length out → k ≡ 0 → p ≡ length (net_bytes n) → WriteRow n out k p
+  no_bytes : judged n ≡ Ok tt → length out < length (net_bytes n) → k ≡ 9 → p ≡ length (net_bytes n) → WriteRow n out k p
   unsound : Row n k p → 1 ≤ k → WriteRow n out k p
 
 module _ (n : Net) (out : List ℕ) where

@@ -58,7 +58,7 @@ node_value at d next (Count n) e = never (cc)
 node_value at d next (Entry x) e = never (cc)
 node_value at d next End e = never (cc)
 
-end_value : (at : ℕ) (v : Value) → taken_value at v ≡ (Ok None) → v ≡ End
+end_value : (at : ℕ) (v : Value) → taken_value at v ≡ Ok None → v ≡ End
 end_value at End e = refl
 end_value at (LimitsField l) e = never (cc)
 end_value at (Branch p w) e = never (cc)
@@ -75,7 +75,7 @@ node_field d next (Ok f) e = let (v, n) = node_value f.at d next f.value e in (f
 node_field d next (Err (Cut t place)) e = never (cc)
 node_field d next (Err (Unfound r)) e = never (cc)
 
-end_field : (g : Result Field NoField) → taken_of g ≡ (Ok None) → (f : Field) × (g ≡ Ok f) × (f.value ≡ End)
+end_field : (g : Result Field NoField) → taken_of g ≡ Ok None → (f : Field) × (g ≡ Ok f) × (f.value ≡ End)
 end_field (Ok f) e = (f, refl, end_value f.at f.value e)
 end_field (Err (Cut t place)) e = never (cc)
 end_field (Err (Unfound r)) e = never (cc)
@@ -83,7 +83,7 @@ end_field (Err (Unfound r)) e = never (cc)
 -- ---- a file's bytes
 module _ (s : List ℕ) (by : AreBytes s) where
   -- an end that was read lies inside the file
-  pub end_inside : (at : ℕ) → taken_at s at ≡ (Ok None) → at + 3 ≤ length s
+  pub end_inside : (at : ℕ) → taken_at s at ≡ Ok None → at + 3 ≤ length s
   unfolding taken_at
   end_inside at e =
       let (f, got, v) = end_field (field_at s at) e in
@@ -102,20 +102,20 @@ module _ (s : List ℕ) (by : AreBytes s) where
         ∙ ap (λ (x : List ℕ). bytes_of (field_of d) ++ x) (later ∙ ap (λ (x : ℕ). drop x s) next_is)
         ∙ sym (begins s by at f (field_of d) got v)
 
-    end_bytes : (at : ℕ) → taken_at s at ≡ (Ok None) → length s ≤ at + 3 → bytes_of End ≡ drop at s
+    end_bytes : (at : ℕ) → taken_at s at ≡ Ok None → length s ≤ at + 3 → bytes_of End ≡ drop at s
     unfolding taken_at
     end_bytes at e h =
         let (f, got, v) = end_field (field_at s at) e in
         let none : drop (at + 3) s ≡ [] = drop_of_length-le s {i = at + 3} (omega arith) in
         sym (rw none at (begins s by at f End got v))
 
-    bytes_back : (k at i : ℕ) → fields_judged N (length s) i (fields_from k s at) ≡ (Ok tt) → drop i ds ≡ nodes_of (fields_from k s at) → bytes_from (node N) (length (nodes_of (fields_from k s at))) i ≡ drop at s
+    bytes_back : (k at i : ℕ) → fields_judged N (length s) i (fields_from k s at) ≡ Ok tt → drop i ds ≡ nodes_of (fields_from k s at) → bytes_from (node N) (length (nodes_of (fields_from k s at))) i ≡ drop at s
     unfolding fields_from fields_judged nodes_of bytes_from
     bytes_back zero at i e h = never (cc)
     bytes_back (suc k) at i e h = on (taken_at s at) refl e h (λ next. bytes_back k next (suc i))
       where
-        on : (t : Result (Option Taken) Refusal) → taken_at s at ≡ t → fields_judged N (length s) i (follow at t (fields_from k s)) ≡ (Ok tt) → drop i ds ≡ nodes_of (follow at t (fields_from k s))
-            → ((next : ℕ) → fields_judged N (length s) (suc i) (fields_from k s next) ≡ (Ok tt) → drop (suc i) ds ≡ nodes_of (fields_from k s next) → bytes_from (node N) (length (nodes_of (fields_from k s next))) (suc i) ≡ drop next s)
+        on : (t : Result (Option Taken) Refusal) → taken_at s at ≡ t → fields_judged N (length s) i (follow at t (fields_from k s)) ≡ Ok tt → drop i ds ≡ nodes_of (follow at t (fields_from k s))
+            → ((next : ℕ) → fields_judged N (length s) (suc i) (fields_from k s next) ≡ Ok tt → drop (suc i) ds ≡ nodes_of (fields_from k s next) → bytes_from (node N) (length (nodes_of (fields_from k s next))) (suc i) ≡ drop next s)
             → bytes_from (node N) (length (nodes_of (follow at t (fields_from k s)))) i ≡ drop at s
         on (Ok (Some t)) q j left later =
             let head : Heads ds i t.node (nodes_of (fields_from k s t.next)) = heads i left in
@@ -141,7 +141,7 @@ columns_fit_lem l ds lo hi = rw (
 -- ---- a file that was read
 
 pub record Same (s : List ℕ) (n : Net) : Type 0 where
-  pub sound : judged n ≡ (Ok tt)
+  pub sound : judged n ≡ Ok tt
   pub bytes : net_bytes n ≡ s
 
 pub same_bytes : (s : List ℕ) (n : Net) → AreBytes s → net_of s ≡ read n → Same s n
@@ -155,7 +155,7 @@ same_bytes s n by e =
     let (nodes, c) = columns_judged_lem n (length s) 1 (fields_of s) w.sound in
     let fit : columns_fit n ≡ true = ap columns_fit w.is ∙ columns_fit_lem n.limits (source ∷ nodes_of (fields_of s)) (omega arith) (omega (arith, m, few)) in
     let clear : source_clear n ≡ true = ap source_clear w.is in
-    let all : nodes_judged n ≡ (Ok tt) = rw k nodes in
+    let all : nodes_judged n ≡ Ok tt = rw k nodes in
     let back : bytes_from (node n) (length (nodes_of (fields_of s))) 1 ≡ drop 12 s
     = ap (λ (x : Net). bytes_from (node x) (length (nodes_of (fields_of s))) 1) w.is
     ∙ bytes_back s by n.limits (source ∷ nodes_of (fields_of s)) 1025 12 1 (rw w.is at w.sound) refl in

@@ -19,9 +19,9 @@ use Rattle.net_file.proofs.FieldsJudged.{fields_few}
 pub record WasRead (s : List ℕ) (n : Net) : Type 0 where
   pub front : front_of (due_at 1 s 0) ≡ Ok n.limits
   pub is : n ≡ net_with n.limits (fields_of s)
-  pub sound : fields_judged n (length s) 1 (fields_of s) ≡ (Ok tt)
+  pub sound : fields_judged n (length s) 1 (fields_of s) ≡ Ok tt
 
-was_sound : (j : Judged) (n m : Net) → when_sound j n ≡ read m → (j ≡ (Ok tt)) × (n ≡ m)
+was_sound : (j : Judged) (n m : Net) → when_sound j n ≡ read m → (j ≡ Ok tt) × (n ≡ m)
 was_sound (Ok _) n m e = (refl, cc)
 was_sound (Err r) n m e = never (cc)
 

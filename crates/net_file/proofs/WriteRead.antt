@@ -76,12 +76,12 @@ whole_column nodes f col h m long zero_at_lem =
     rw (← zero_at_lem, column_of nodes f col h m 1 (omega arith), t) (sym d)
 
 -- ---- a sound net's file
-module _ (n : Net) (holds : judged n ≡ (Ok tt)) where
+module _ (n : Net) (holds : judged n ≡ Ok tt) where
   facts : SoundNet n
   facts = sound_says n holds
 
   -- what the judge met
-  met : (columns_fit n ≡ true) × (limits_in_range n.limits ≡ true) × (source_clear n ≡ true) × (nodes_judged n ≡ (Ok tt)) × (childed n ≡ (Ok tt))
+  met : (columns_fit n ≡ true) × (limits_in_range n.limits ≡ true) × (source_clear n ≡ true) × (nodes_judged n ≡ Ok tt) × (childed n ≡ Ok tt)
   unfolding judged
   met =
       let (a, e₁) = then_met (unless (columns_fit n) WrongColumns) _ holds in
@@ -90,7 +90,7 @@ module _ (n : Net) (holds : judged n ≡ (Ok tt)) where
       let (d, f) = then_met (nodes_judged n) (childed n) e₃ in
       (unless_met _ WrongColumns a, unless_met _ (OutOfRange 0) b, unless_met _ (OutOfRange 0) c, d, f)
 
-  node_met : (i : ℕ) → 1 ≤ i → i < places n → node_judged n i i ≡ (Ok tt)
+  node_met : (i : ℕ) → 1 ≤ i → i < places n → node_judged n i i ≡ Ok tt
   node_met i lo hi = each_met (λ j. node_judged n j j) (places n - 1) 1 met.3 i lo (omega arith)
 
   in_range : (i : ℕ) → 1 ≤ i → i < places n → end_in_range n.limits (node n i) ≡ true
@@ -106,27 +106,27 @@ module _ (n : Net) (holds : judged n ≡ (Ok tt)) where
         let fit : Fitting (field_of (node n i)) = fitting (node n i) (omega (arith, f.lower i lo hi, f.few)) (f.wire_most i) (f.pin_most i) (omega (arith, f.polarity_most i, f.repeater_most)) in
         ap taken_of (field_back s at (field_of (node n i)) rest fit e) ∙ taken_back at n.limits (node n i) (in_range i lo hi)
 
-    end_here : (at : ℕ) → drop at s ≡ bytes_of End → taken_at s at ≡ (Ok None)
+    end_here : (at : ℕ) → drop at s ≡ bytes_of End → taken_at s at ≡ Ok None
     unfolding taken_at
     end_here at e = ap taken_of (field_back s at End [] tt e)
 
     -- the fields from a place on, where m nodes from node i on stand there
     record Back (k at m i : ℕ) : Type 0 where
       nodes : nodes_of (fields_from k s at) ≡ listed (node n) m i
-      sound : fields_judged n (length s) i (fields_from k s at) ≡ (Ok tt)
+      sound : fields_judged n (length s) i (fields_from k s at) ≡ Ok tt
 
     back : (m k at i : ℕ) → m < k → 1 ≤ i → i + m ≡ places n → drop at s ≡ bytes_from (node n) m i → Back k at m i
     unfolding fields_from fields_judged nodes_of bytes_from listed
     back m zero at i h lo e b = absurd (omega arith)
     back zero (suc k) at i h lo e b =
-        let t : taken_at s at ≡ (Ok None) = end_here at b in
+        let t : taken_at s at ≡ Ok None = end_here at b in
         let long : length s ≤ at + 3 = omega (arith, length-drop at s, ap length b) in
         record { nodes = rw t; sound = rw (t, le-leb (length s) (at + 3) long) met.4 }
     back (suc m) (suc k) at i h lo e b =
         let t : taken_at s at ≡ one_node (node n i) (at + length (bytes_of (field_of (node n i)))) = node_here at i (bytes_from (node n) m (suc i)) lo (omega arith) b in
         let rest : drop (at + length (bytes_of (field_of (node n i)))) s ≡ bytes_from (node n) m (suc i) = after s (bytes_of (field_of (node n i))) (bytes_from (node n) m (suc i)) at b in
         let later : Back k (at + length (bytes_of (field_of (node n i)))) m (suc i) = back m k (at + length (bytes_of (field_of (node n i)))) (suc i) (omega arith) (omega arith) (omega arith) rest in
-        let ok : node_judged n i at ≡ (Ok tt) = admitted_anywhere n.limits (node n i) i (kind n (parent n i)) (children n (i - 1) (parent n i)) i at (node_met i lo (omega arith)) in
+        let ok : node_judged n i at ≡ Ok tt = admitted_anywhere n.limits (node n i) i (kind n (parent n i)) (children n (i - 1) (parent n i)) i at (node_met i lo (omega arith)) in
         record {
           nodes = ap (λ (x : Result (Option Taken) Refusal). nodes_of (follow at x (fields_from k s))) t ∙ ap (λ (ds : List Node). node n i ∷ ds) later.nodes;
           sound = ap (λ (x : Result (Option Taken) Refusal). fields_judged n (length s) i (follow at x (fields_from k s))) t ∙ rw ok later.sound;
@@ -170,7 +170,7 @@ module _ (n : Net) (holds : judged n ≡ (Ok tt)) where
 
 -- ---- written, and read again: RULES 3.13
 
-was_written : (j : Judged) (bs out : List ℕ) (m : ℕ) → Ok m ≡ written j bs out → (j ≡ (Ok tt)) × (m ≡ length bs) × (length bs ≤ length out) × (left_in j bs out ≡ sets out 0 bs)
+was_written : (j : Judged) (bs out : List ℕ) (m : ℕ) → Ok m ≡ written j bs out → (j ≡ Ok tt) × (m ≡ length bs) × (length bs ≤ length out) × (left_in j bs out ≡ sets out 0 bs)
 was_written (Err r) bs out m e = never (cc)
 was_written (Ok _) bs out m e = by (ltb (length out) (length bs)) refl e
   where
@@ -180,7 +180,7 @@ was_written (Ok _) bs out m e = by (ltb (length out) (length bs)) refl e
 
 module _ (n : Net) (out after : List ℕ) (m : ℕ) (wrote : WroteNet n out after (Ok m)) where
   -- what was written, in the first m bytes of the buffer
-  pub written_net : (judged n ≡ (Ok tt)) × (take m after ≡ net_bytes n)
+  pub written_net : (judged n ≡ Ok tt) × (take m after ≡ net_bytes n)
   written_net =
       let (j, k, fits, left) = was_written (judged n) (net_bytes n) out m wrote.answer in
       (j, rw (wrote.buffer, left, k) (front_is out (net_bytes n) (length (net_bytes n)) refl fits))

@@ -41,6 +41,6 @@ module _ (s : List ℕ) (places : ℕ) (lent : Net) where
     }
 
     -- the end: all nodes are laid
-    pub fill_last : i < places → taken_at s at ≡ (Ok None) → now ≡ laid_from lent 1 (places - 1) s 12
+    pub fill_last : i < places → taken_at s at ≡ Ok None → now ≡ laid_from lent 1 (places - 1) s 12
     unfolding nodes_of
     fill_last h e = sym (step h (Ok None) e)

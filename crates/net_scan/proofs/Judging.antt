@@ -80,7 +80,7 @@ module _ (l : Limits) (s : List ℕ) where
   unfolding net_from
   told_unsound r e = rw e
 
-  told_sound : (n : ℕ) → Whole ≡ (Ok tt) → n ≡ length All → read_as l n ≡ tells (net_from s l)
+  told_sound : (n : ℕ) → Whole ≡ Ok tt → n ≡ length All → read_as l n ≡ tells (net_from s l)
   unfolding net_from
   told_sound n e h = rw (e, places_are l All, h)
 
@@ -98,7 +98,7 @@ module _ (l : Limits) (s : List ℕ) where
     stop_wrong r e = told_unsound r (step (Err r) e).0
 
     -- the end
-    module _ {r : Judged} (e : taken_at s at ≡ (Ok None))
+    module _ {r : Judged} (e : taken_at s at ≡ Ok None)
         (is : r ≡ then_judge (unless (leb (length s) (at + 3)) (BytesAfterEnd (at + 3))) (childed_by (λ v. get_or kinds v 0) (λ v. get_or counts v 0) i)) where
       all_seen : i ≡ length All
       unfolding nodes_of
@@ -116,7 +116,7 @@ module _ (l : Limits) (s : List ℕ) where
       pub stop_end : (x : Refusal) → r ≡ Err x → Err x ≡ tells (net_from s l)
       stop_end x h = told_unsound x (whole_is ∙ h)
 
-      pub ends : r ≡ (Ok tt) → read_as l i ≡ tells (net_from s l)
+      pub ends : r ≡ Ok tt → read_as l i ≡ tells (net_from s l)
       ends h = told_sound i (whole_is ∙ h) all_seen
 
     -- a node
@@ -143,7 +143,7 @@ module _ (l : Limits) (s : List ℕ) where
       pub stop_node : (x : Refusal) → r ≡ Err x → Err x ≡ tells (net_from s l)
       stop_node x h = told_unsound x (whole_here ∙ rw h)
 
-      module _ (sound : r ≡ (Ok tt)) where
+      module _ (sound : r ≡ Ok tt) where
         pub fits : Fits i d.parent (get_or kinds d.parent 0) (get_or counts d.parent 0)
         fits = parent_fits_lem i d.parent (get_or kinds d.parent 0) (get_or counts d.parent 0) (admitted_fits l d i (get_or kinds d.parent 0) (get_or counts d.parent 0) at (sym is ∙ sound)).1
 
@@ -156,7 +156,7 @@ module _ (l : Limits) (s : List ℕ) where
         pub next_node : {kinds' more : List ℕ} → kinds' ≡ set kinds i d.kind → more ≡ set counts d.parent (get_or counts d.parent 0 + 1) → Judging kinds' more next (i + 1)
         next_node k q =
             let f : suc (j.k - 1) ≡ j.k = omega (arith, j.fuel, fits.few) in
-            let ok : (Ok tt) ≡ admitted l d i (kind N d.parent) (get_or counts d.parent 0) i = sym (sym (admits i) ∙ admitted_anywhere l d i (get_or kinds d.parent 0) (get_or counts d.parent 0) at i (sym is ∙ sound)) in
+            let ok : Ok tt ≡ admitted l d i (kind N d.parent) (get_or counts d.parent 0) i = sym (sym (admits i) ∙ admitted_anywhere l d i (get_or kinds d.parent 0) (get_or counts d.parent 0) at i (sym is ∙ sound)) in
             record {
               k = j.k - 1;
               fuel = omega (arith, j.fuel, fits.few);
