@@ -77,7 +77,7 @@ fn field_of(f: &[u8], at: usize, tag: u8) -> Result<Field, NoField>
     ensures { result ≡ field_in at f.now }
 {
     let body = length_of(tag);
-    if read2(f, 1) as usize != body {
+    if usize::from(read2(f, 1)) != body {
         return Err(NoField::Refused(Refusal::NotDue(at)));
     }
     if f.len() < HEADER + body {

@@ -5,7 +5,7 @@ ghost use Rattle.std.specs.Prelude.{◌≡◌, [], ◌∷◌, ◌<◌, ◌≤◌
 ghost use Rattle.rules.specs.Net.{net_of as net_behind, unlimited};
 ghost use Rattle.net_file.specs.NetFile.{kept_in, blank, first_places, laid_over, columns_of};
 
-use rules::{LentNet, Limits, Node};
+use rules::{LentNet, Limits, Node, PLACES};
 
 // A file that was read: its limits, and the places that its nodes and the source take.
 #[derive(Clone, Copy, Debug, PartialEq, Eq)]
@@ -24,11 +24,11 @@ pub struct Taken {
 // Columns of the reader's own, with a place for each node that a net may have.
 #[derive(Drop)]
 pub struct Columns {
-    pub parent: [u16; 1025],
-    pub wire: [u32; 1025],
-    pub kind: [u8; 1025],
-    pub pin: [u32; 1025],
-    pub polarity: [u8; 1025],
+    pub parent: [u16; PLACES],
+    pub wire: [u32; PLACES],
+    pub kind: [u8; PLACES],
+    pub pin: [u32; PLACES],
+    pub polarity: [u8; PLACES],
 }
 
 impl Columns {
@@ -37,11 +37,11 @@ impl Columns {
         ensures { kept_in result ≡ blank }
     {
         Columns {
-            parent: [0; 1025],
-            wire: [0; 1025],
-            kind: [0; 1025],
-            pin: [0; 1025],
-            polarity: [0; 1025],
+            parent: [0; PLACES],
+            wire: [0; PLACES],
+            kind: [0; PLACES],
+            pin: [0; PLACES],
+            polarity: [0; PLACES],
         }
     }
 

@@ -12,7 +12,7 @@ use field::{
     SINK_TAG, Value,
 };
 use net_file::{Columns, NetRead, Taken};
-use rules::{Limits, Node, Refusal};
+use rules::{Limits, Node, PLACES, Refusal};
 
 // A body that is cut: 1 where the tag is due, else 2.
 fn cut(due: bool, place: usize) -> Refusal
@@ -104,12 +104,12 @@ fn judge_fields(s: &[u8], limits: Limits, columns: &mut Columns) -> Result<NetRe
     requires { kept_in columns.old ≡ blank }
     ensures { JudgedFile s.now (net_from s.now limits) (kept_in columns.new) result }
 {
-    let mut counts = [0u8; 1025];
+    let mut counts = [0; PLACES];
     let mut at = LIMITS_SIZE;
     let mut i: usize = 1;
     while let Some(taken) = take_node(s, at)? {
         net::admit(limits, taken.node, i, &columns.kind, &counts, at)?;
-        net::tally(&mut counts, taken.node.parent as usize);
+        net::tally(&mut counts, usize::from(taken.node.parent));
         columns.put(i, taken.node);
         i += 1;
         at = taken.next;

@@ -26,7 +26,7 @@ returns-in_err-admit c =
 pub loop-taken-preserved : goal.loop-taken-preserved
 loop-taken-preserved c =
     let e = sym c.in_ok-taken.ensures ∙ ap Ok c.in-Some.is in (
-      next_node _ _ c.loop-taken.invariant.0 e c.in_ok-admit.ensures refl (ap (λ (n : Net). n.kinds) c.put.ensures) c.tally.ensures,
+      next_node _ _ c.loop-taken.invariant.0 e c.in_ok-admit.ensures refl (ap (λ (n : Net). n.kinds) c.put.ensures) (rw c.from.ensures at c.tally.ensures),
       fill_next _ _ _ c.loop-taken.invariant.1 (omega (arith, c.loop-taken.invariant.0.fuel)) e c.put.ensures,
     )
 
