@@ -13,14 +13,15 @@ use Rattle.rules.specs.declared.Entry.{Entry}
 use Rattle.rules.specs.Load.{column_entry, entries, offsets_on, load_below, driven_on, driven}
 use Rattle.rules.specs.Legal.{start, Stands}
 use Rattle.load.specs.declared.Tables.{Tables}
-use Rattle.load.specs.Asks.{Placed, Weighable, AsksNode, Stacked}
+use Rattle.load.specs.Tables.{TablesOf}
+use Rattle.load.specs.Asks.{Placed, AsksNode, Stacked}
 use Rattle.load.proofs.Order.{at, stands_at, further_up, rising}
 use Rattle.load.proofs.Begins.{Begins, begin as beginOf, begins as beginsOf}
 use Rattle.load.proofs.Offsets.{begins_rise, offsets_slice, length_drives, lowest_drives, next_drives, Counts, joined_length, joined_at}
 
 -- the source, which is no sink
-pub source_asked : {n : Net} {vs os : List ℕ} {t : Tables} → Weighable n vs os t → AsksNode n (offsets_on (entries vs os)) n.parents t 0
-source_asked w = record { asks = record { column = refl; tables = w.tables; within = w.placed.sound.some }; branch = λ e. omega (arith, w.placed.sound.source) }
+pub source_asked : {n : Net} {offs : ℕ → List ℕ} {t : Tables} → TablesOf n offs t → AsksNode n offs n.parents t 0
+source_asked w = record { asks = record { column = refl; tables = w; within = w.sound.some }; branch = λ e. omega (arith, w.sound.source) }
 
 module _ {n : Net} {vs os : List ℕ} (p : Placed n vs os) where
   -- where the entries of wire i begin

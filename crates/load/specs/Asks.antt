@@ -42,16 +42,6 @@ pub record AskedNode (parents : List ℕ) (t : Tables) (v : ℕ) : Type 0 where
   pub offs : ℕ → List ℕ
   pub asks : AsksNode net offs parents t v
 
--- a placement, and its tables
-pub record Weighable (n : Net) (vs os : List ℕ) (t : Tables) : Type 0 where
-  pub placed : Placed n vs os
-  pub tables : TablesOf n (offsets_on (entries vs os)) t
-
--- and an entry
-pub record AsksEntry (n : Net) (vs os : List ℕ) (t : Tables) (k : ℕ) : Type 0 where
-  pub weighable : Weighable n vs os t
-  pub within : k < length vs
-
 -- entry k stands above another on its wire
 abbrev pub Stacked : List ℕ → ℕ → Bool → Type 0
 Stacked vs k true = (0 < k) × (get_or vs (k - 1) 0 ≡ get_or vs k 0)

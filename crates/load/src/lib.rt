@@ -2,18 +2,24 @@
 #![tactic(auto)]
 
 ghost use Rattle.std.specs.Prelude.{◌≡◌, ℕ, ◌+◌, ◌≤◌, ◌<◌, false, List, [], eqb, length, get_or};
+ghost use Rattle.std.proofs.Props.{props};
 ghost use Rattle.rules.specs.Choose.{pick};
 ghost use Rattle.rules.specs.Net.{Net, net_of};
-ghost use Rattle.rules.specs.Load.{load_below, handed_up, driven, offsets_on};
-ghost use Rattle.rules.specs.Sound.{SoundNet};
+ghost use Rattle.rules.specs.Load.{load_below, handed_up, driven, source_drives, offsets_on};
 ghost use Rattle.load.specs.Next.{Parents, Searched, NoneFrom, Passed, NextIs};
 ghost use Rattle.load.specs.Tables.{Clear, ClearTables, Spans, Parts, TablesOf};
-ghost use Rattle.load.specs.Asks.{offsets_at, Placed, Stacked, AsksNode, AsksWire, AskedNode, AskedWire, AsksEntry};
+ghost use Rattle.load.specs.Props.{InOrder-prop, Span-prop};
+ghost use Rattle.load.specs.Asks.{offsets_at, Placed, Stacked, AsksNode, AsksWire, AskedNode, AskedWire};
 
-use rules::{LentNet, LentPlacement};
+use rules::{LentNet, LentPlacement, PLACES};
 
-// The places of a table over nodes.
-pub const PLACES: usize = 1025;
+// A placement that stands on a net: the net is sound, and each entry is on a wire of it, in order.
+#[derive(Clone, Copy)]
+pub struct Standing<'a> {
+    pub net: LentNet<'a>,
+    pub placement: LentPlacement<'a>,
+    pub ghost placed: { Placed (net_of net) placement.wires.now placement.offsets.now } by { Prim.hlevel (props, InOrder-prop) },
+}
 
 // The tables that the loads are told from. Of a wire: what it hands up by itself, and whether it asks no further down.
 // Of a node: how far past it, less one, its first child is, and how far its last.
@@ -27,7 +33,7 @@ pub struct Tables {
 
 impl Tables {
     // Before they are filled.
-    pub fn clear() -> Tables
+    fn clear() -> Tables
         ensures { ClearTables result }
     {
         Tables {
@@ -131,11 +137,11 @@ fn bare(size: u32, kind: u8, pin: u32) -> u32
 }
 
 // The parts of all wires while there are no entries: only those above a sink ask no further down.
-fn bare_parts(net: &LentNet, own: &mut [u32; PLACES], shut: &mut [bool; PLACES])
-    requires sound_net { SoundNet (net_of net.now) }
+fn bare_parts(on: &Standing, own: &mut [u32; PLACES], shut: &mut [bool; PLACES])
     requires clear { Clear 0 own.old × Clear false shut.old }
-    ensures { Parts (net_of net.now) (offsets_on []) own.new shut.new }
+    ensures { Parts (net_of on.now.net) (offsets_on []) own.new shut.new }
 {
+    let net = &on.net;
     for i in 0..net.wire.len() {
         let kind = net.kind[i];
         own[i] = bare(net.wire[i], kind, net.pin[i]);
@@ -144,33 +150,28 @@ fn bare_parts(net: &LentNet, own: &mut [u32; PLACES], shut: &mut [bool; PLACES])
 }
 
 // The entries, each in its turn: above its topmost one a wire hands up "w - om + C_b", and asks no further down.
-fn cut_parts(
-    net: &LentNet,
-    placement: &LentPlacement,
-    own: &mut [u32; PLACES],
-    shut: &mut [bool; PLACES],
-)
-    requires placed { Placed (net_of net.now) placement.now.wires.now placement.now.offsets.now }
-    requires parts { Parts (net_of net.now) (offsets_on []) own.old shut.old }
-    ensures { Parts (net_of net.now) (offsets_at placement.now) own.new shut.new }
+fn cut_parts(on: &Standing, own: &mut [u32; PLACES], shut: &mut [bool; PLACES])
+    requires parts { Parts (net_of on.now.net) (offsets_on []) own.old shut.old }
+    ensures { Parts (net_of on.now.net) (offsets_at on.now.placement) own.new shut.new }
 {
-    for k in 0..placement.wires.len() {
-        let entry = placement.entry(k);
-        let on = entry.wire as usize;
-        own[on] = net.wire[on] - entry.offset + net.limits.pin;
-        shut[on] = true;
+    let net = &on.net;
+    for k in 0..on.placement.wires.len() {
+        let entry = on.placement.entry(k);
+        let i = entry.wire as usize;
+        own[i] = net.wire[i] - entry.offset + net.limits.pin;
+        shut[i] = true;
     }
 }
 
-// Fills the tables, clear before.
-pub fn make_tables(net: &LentNet, placement: &LentPlacement, tables: &mut Tables)
-    requires placed { Placed (net_of net.now) placement.now.wires.now placement.now.offsets.now }
-    requires clear { ClearTables tables.old }
-    ensures { TablesOf (net_of net.now) (offsets_at placement.now) tables.new }
+// The tables of a placement that stands.
+fn make_tables(on: &Standing) -> Tables
+    ensures { TablesOf (net_of on.now.net) (offsets_at on.now.placement) result }
 {
-    span_children(net.parent, &mut tables.gap, &mut tables.reach);
-    bare_parts(net, &mut tables.own, &mut tables.shut);
-    cut_parts(net, placement, &mut tables.own, &mut tables.shut);
+    let mut tables = Tables::clear();
+    span_children(on.net.parent, &mut tables.gap, &mut tables.reach);
+    bare_parts(on, &mut tables.own, &mut tables.shut);
+    cut_parts(on, &mut tables.own, &mut tables.shut);
+    tables
 }
 
 // What lies below a branch point or the source: the sum of what the wires below it hand up.
@@ -214,20 +215,49 @@ fn stacked(wires: &[u16], k: usize) -> bool
     0 < k && wires[k - 1] == wires[k]
 }
 
-// What an entry drives: the lowest on its wire its offset and what lies below the node, each next its offset less the one before and C_b.
-pub fn drives(net: &LentNet, placement: &LentPlacement, tables: &Tables, k: usize) -> u64
-    requires { AsksEntry (net_of net.now) placement.now.wires.now placement.now.offsets.now tables.now k }
-    ensures { result ≡ get_or (driven (net_of net.now) (offsets_at placement.now)) k 0 }
-{
-    let i = placement.wires[k] as usize;
-    let offset = placement.offsets[k] as u64;
-    if stacked(placement.wires, k) {
-        let before = placement.offsets[k - 1] as u64;
-        return offset - before + net.limits.pin as u64;
+// A placement that stands, and the tables that its loads are told from.
+#[derive(Drop)]
+pub struct Loads<'a> {
+    pub on: Standing<'a>,
+    tables: Tables,
+    ghost told: { TablesOf (net_of on.net) (offsets_at on.placement) tables } by { Prim.hlevel (props, Span-prop) },
+}
+
+impl<'a> Loads<'a> {
+    // The loads of a placement.
+    pub fn of(on: &Standing<'a>) -> Loads<'a>
+        ensures { result.on ≡ on.now }
+    {
+        Loads {
+            on: *on,
+            tables: make_tables(on),
+        }
     }
-    if net.kind[i] == 1 {
-        let sink = net.pin[i] as u64;
-        return offset + sink;
+
+    // What entry k drives: the lowest on its wire its offset and what lies below the node, each next its offset less the one before and C_b.
+    pub fn drives(&self, k: usize) -> u64
+        requires { k < length self.now.on.placement.wires.now }
+        ensures { result ≡ get_or (driven (net_of self.now.on.net) (offsets_at self.now.on.placement)) k 0 }
+    {
+        let net = &self.on.net;
+        let placement = &self.on.placement;
+        let i = placement.wires[k] as usize;
+        let offset = placement.offsets[k] as u64;
+        if stacked(placement.wires, k) {
+            let before = placement.offsets[k - 1] as u64;
+            return offset - before + net.limits.pin as u64;
+        }
+        if net.kind[i] == 1 {
+            let sink = net.pin[i] as u64;
+            return offset + sink;
+        }
+        offset + load_below(net.parent, &self.tables, i)
     }
-    offset + load_below(net.parent, tables, i)
+
+    // What the source drives.
+    pub fn source(&self) -> u64
+        ensures { result ≡ source_drives (net_of self.now.on.net) (offsets_at self.now.on.placement) }
+    {
+        load_below(self.on.net.parent, &self.tables, 0)
+    }
 }

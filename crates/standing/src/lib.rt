@@ -5,12 +5,10 @@ ghost use Rattle.std.specs.Prelude.{◌≡◌};
 ghost use Rattle.rules.specs.Choose.{both};
 ghost use Rattle.rules.specs.Net.{Net, net_of};
 ghost use Rattle.rules.specs.Checked.{on_its_wire, not_lower};
-ghost use Rattle.standing.specs.Stands.{stood, begun, HasWires};
+ghost use Rattle.standing.specs.Stands.{stood, begun, StandsIs, HasWires};
 
-use rules::{Entry, LentNet, LentPlacement, Refusal};
-
-// The most entries that columns may have.
-const ENTRIES: usize = 4096;
+use load::Standing;
+use rules::{ENTRIES, Entry, LentNet, LentPlacement, Refusal};
 
 // Whether an entry stands on a wire, and not before another: the tests of 10.
 fn entry_stands(wire: &[u32], before: Entry, entry: Entry) -> bool
@@ -45,4 +43,15 @@ pub fn judge(net: &LentNet, placement: &LentPlacement) -> Result<(), Refusal>
 {
     net::judge(net)?;
     entries_stand(net.wire, placement)
+}
+
+// The same, for calls that go on from there: the net and the placement, known to stand.
+pub fn stands<'a>(net: &LentNet<'a>, placement: &LentPlacement<'a>) -> Result<Standing<'a>, Refusal>
+    ensures { StandsIs net.now placement.now result }
+{
+    judge(net, placement)?;
+    Ok(Standing {
+        net: *net,
+        placement: *placement,
+    })
 }

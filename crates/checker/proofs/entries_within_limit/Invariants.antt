@@ -9,5 +9,5 @@ use Rattle.checker.proofs.entries_within_limit.Given as goal
 
 abbrev pub invariant-loop-entry : goal.invariant-loop-entry
 invariant-loop-entry l =
-    within_limit l.net.limits.limit 0 (driven (net_of l.net) (offsets_at l.placement))
-    ≡ within_limit l.net.limits.limit l.entry (drop l.entry (driven (net_of l.net) (offsets_at l.placement)))
+    within_limit l.loads.on.net.limits.limit 0 (driven (net_of l.loads.on.net) (offsets_at l.loads.on.placement))
+    ≡ within_limit l.loads.on.net.limits.limit l.entry (drop l.entry (driven (net_of l.loads.on.net) (offsets_at l.loads.on.placement)))

@@ -7,7 +7,7 @@ use Rattle.checker.proofs.weigh.Goals as goal
 pub returns-in_err-entries_within_limit : goal.returns-in_err-entries_within_limit
 returns-in_err-entries_within_limit c =
     let p = err_from_is_err_and c.from_residual.result c.from_residual.ensures.1 in
-    rw (p.1, p.2) (loads_over c.requires _ c.in_err-entries_within_limit.ensures)
+    rw (p.1, p.2, ← c.of-loads.ensures) (loads_over c.of-loads.result.on.placed _ c.in_err-entries_within_limit.ensures)
 
 pub returns : goal.returns
-returns c = c.settle.ensures ∙ loads_within c.requires c.in_ok-entries_within_limit.ensures
+returns c = rw (← c.of-loads.ensures) (c.settle.ensures ∙ loads_within c.of-loads.result.on.placed c.in_ok-entries_within_limit.ensures)

@@ -6,4 +6,4 @@ use Rattle.listing.proofs.Stored.{Stored}
 use Rattle.listing.proofs.fill_drives.Given as goal
 
 abbrev pub invariant-loop-k : goal.invariant-loop-k
-invariant-loop-k l = Stored (driven (net_of l.net) (offsets_at l.placement)) l.initial.out l.k l.out
+invariant-loop-k l = Stored (driven (net_of l.loads.on.net) (offsets_at l.loads.on.placement)) l.initial.out l.k l.out

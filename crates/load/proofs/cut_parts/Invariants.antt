@@ -5,4 +5,4 @@ use Rattle.load.proofs.Parts.{offsets_to}
 use Rattle.load.proofs.cut_parts.Given as goal
 
 abbrev pub invariant-loop-k : goal.invariant-loop-k
-invariant-loop-k l = Parts (net_of l.net) (offsets_to l.placement.wires.now l.placement.offsets.now l.k) l.own l.shut
+invariant-loop-k l = Parts (net_of l.on.net) (offsets_to l.on.placement.wires.now l.on.placement.offsets.now l.k) l.own l.shut

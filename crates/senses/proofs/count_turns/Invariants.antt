@@ -4,4 +4,4 @@ use Rattle.senses.specs.Parity.{Counted}
 use Rattle.senses.proofs.count_turns.Given as goal
 
 abbrev pub invariant-loop-wire : goal.invariant-loop-wire
-invariant-loop-wire l = Counted (offsets_to l.placement.wires.now l.placement.offsets.now l.wire-index) 0 l.odd
+invariant-loop-wire l = Counted (offsets_to l.on.placement.wires.now l.on.placement.offsets.now l.wire-index) 0 l.odd

@@ -5,8 +5,8 @@ use Rattle.load.proofs.Clear.{new_clear}
 use Rattle.senses.proofs.Inverters.{buffers_agree}
 use Rattle.senses.proofs.judge.Goals as goal
 
-pub returns-then-net-eq0 : goal.returns-then-net-eq0
-returns-then-net-eq0 c = sym (buffers_agree c.requires.sound c.if-net-eq0.true _)
+pub returns-then-on-eq0 : goal.returns-then-on-eq0
+returns-then-on-eq0 c = sym (buffers_agree c.args.on.now.placed.sound c.if-on-eq0.true _)
 
-pub count_turns-requires-clause-clear : goal.count_turns-requires-clause-clear
-count_turns-requires-clause-clear c = new_clear false
+pub count_turns-requires : goal.count_turns-requires
+count_turns-requires c = new_clear false

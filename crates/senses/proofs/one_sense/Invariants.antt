@@ -7,4 +7,4 @@ use Rattle.senses.proofs.Senses.{Senses}
 use Rattle.senses.proofs.one_sense.Given as goal
 
 abbrev pub invariant-loop-i : goal.invariant-loop-i
-invariant-loop-i l = Senses (net_of l.net) (offsets_at l.placement) (sense (net_of l.net) (offsets_at l.placement) l.lowest) (length l.net.kind.now) l.i
+invariant-loop-i l = Senses (net_of l.on.net) (offsets_at l.on.placement) (sense (net_of l.on.net) (offsets_at l.on.placement) l.lowest) (length l.on.net.kind.now) l.i

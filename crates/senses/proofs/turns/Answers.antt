@@ -4,9 +4,9 @@ use Rattle.senses.proofs.Inverters.{turned_none, counted_none, counted_more, tur
 use Rattle.senses.proofs.turns.Goals as goal
 
 pub loop-i-init : goal.loop-i-init
-loop-i-init c = (counted_none c.requires.sound_net.0 _ c.args.odd.now c.requires.counted, turned_none c.requires.sound_net.0 _ c.args.odd.now c.requires.counted.long)
+loop-i-init c = (counted_none c.args.on.now.placed.sound _ c.args.odd.now c.requires.counted, turned_none c.args.on.now.placed.sound _ c.args.odd.now c.requires.counted.long)
 
 pub loop-i-preserved : goal.loop-i-preserved
 loop-i-preserved c =
     let (own, t) = c.loop-i.invariant in
-    (counted_more c.requires.sound_net.0 _ t own (omega arith) (omega arith) _, turned_more c.requires.sound_net.0 _ t own (omega arith) (omega arith) _ c.requires.sound_net.1 refl)
+    (counted_more c.args.on.now.placed.sound _ t own (omega arith) (omega arith) _, turned_more c.args.on.now.placed.sound _ t own (omega arith) (omega arith) _ c.requires.inverters refl)

@@ -5,4 +5,4 @@ use Rattle.senses.specs.Parity.{Counted, Turned}
 use Rattle.senses.proofs.turns.Given as goal
 
 abbrev pub invariant-loop-i : goal.invariant-loop-i
-invariant-loop-i l = Counted (offsets_at l.placement) l.i l.odd × Turned (net_of l.net) (offsets_at l.placement) l.i l.odd
+invariant-loop-i l = Counted (offsets_at l.on.placement) l.i l.odd × Turned (net_of l.on.net) (offsets_at l.on.placement) l.i l.odd
