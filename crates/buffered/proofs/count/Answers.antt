@@ -1,11 +1,8 @@
 use Rattle.std.proofs.Common.{arith}
 use Rattle.rules.specs.Load.{entries}
-use Rattle.adding.proofs.Summing.{counting_start, counting_end}
+use Rattle.adding.proofs.Summing.{counting_end}
 use Rattle.buffered.proofs.Alone.{count_next}
 use Rattle.buffered.proofs.count.Goals as goal
-
-pub loop-i-init : goal.loop-i-init
-loop-i-init c = (c.requires, counting_start c.requires)
 
 pub loop-i-preserved : goal.loop-i-preserved
 loop-i-preserved c =

@@ -1,11 +1,8 @@
 use Rattle.std.proofs.Common.{arith}
 use Rattle.rules.specs.Load.{entries}
-use Rattle.adding.proofs.Summing.{written_start, wire_left, written_end}
+use Rattle.adding.proofs.Summing.{wire_left, written_end}
 use Rattle.buffered.proofs.Alone.{size_few, below_fits, write_room, write_next}
 use Rattle.buffered.proofs.write.Goals as goal
-
-pub loop-to-init : goal.loop-to-init
-loop-to-init c = (c.requires.ready, written_start c.requires.ready c.args.wires.now c.args.offsets.now)
 
 pub at-x-requires : goal.at-x-requires
 unfolding entries

@@ -1,9 +1,6 @@
 use Rattle.std.proofs.Common.{arith}
-use Rattle.adding.proofs.Summing.{counting_start, counting_next, counting_end}
+use Rattle.adding.proofs.Summing.{counting_next, counting_end}
 use Rattle.adding.proofs.Half.count_all.Goals as goal
-
-pub loop-i-init : goal.loop-i-init
-loop-i-init c = (c.requires, counting_start c.requires)
 
 pub loop-i-preserved : goal.loop-i-preserved
 loop-i-preserved c =

@@ -1,9 +1,6 @@
 use Rattle.std.proofs.Common.{arith}
-use Rattle.adding.proofs.Summing.{begins, written_start, room, written_next, wire_left, written_end}
+use Rattle.adding.proofs.Summing.{begins, room, written_next, wire_left}
 use Rattle.adding.proofs.Half.write_all.Goals as goal
-
-pub loop-to-init : goal.loop-to-init
-loop-to-init c = (c.requires.ready, written_start c.requires.ready c.args.wires.now c.args.offs.now)
 
 pub at-x-requires : goal.at-x-requires
 at-x-requires c =
@@ -27,6 +24,3 @@ pub loop-to-preserved : goal.loop-to-preserved
 loop-to-preserved c =
     let (r, g) = c.loop-to.invariant in
     (r, written_next r g (wire_left r g (omega (arith, c.requires.m_value.0, c.loop-to-test.true))) c.at-x.ensures c.write_wire-walk.ensures)
-
-pub returns : goal.returns
-returns c = written_end c.loop-to.invariant.0 c.loop-to.invariant.1 (omega (arith, c.requires.m_value.0))

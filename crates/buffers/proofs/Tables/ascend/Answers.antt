@@ -4,9 +4,6 @@ use Rattle.buffers.specs.Going.{leads_in, cannot}
 use Rattle.buffers.proofs.Ascending.{tried_ok, tried_err, node_at}
 use Rattle.buffers.proofs.Tables.ascend.Goals as goal
 
-pub loop-i-init : goal.loop-i-init
-loop-i-init c = (c.requires.sound.0.some, c.requires.blank)
-
 pub ease_node-requires : goal.ease_node-requires
 ease_node-requires c = (leads_in c.args.leads.now, node_at c.requires.sound.0 c.loop-i.invariant.1 (omega arith) (omega arith))
 
@@ -24,9 +21,6 @@ push_wire-requires c = record {
   within = omega arith;
   going = tried_ok (c.in_ok-ease_node.ensures (leads_in c.args.leads.now) (node_at c.requires.sound.0 c.loop-i.invariant.1 (omega arith) (omega arith))) refl;
 }
-
-pub loop-i-preserved : goal.loop-i-preserved
-loop-i-preserved c = (omega arith, c.push_wire.ensures)
 
 pub ease_node-requires-2 : goal.ease_node-requires-2
 ease_node-requires-2 c = (leads_in c.args.leads.now, node_at c.requires.sound.0 c.loop-i.invariant.1 (omega arith) (omega arith))

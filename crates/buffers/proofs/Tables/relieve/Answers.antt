@@ -1,14 +1,11 @@
 use Rattle.std.proofs.Common.{List, ℕ, ◌-◌, refl, sym, subst, arith, length, set}
 use Rattle.states.specs.States.{model_of}
 use Rattle.buffers.specs.Chain.{Chain}
-use Rattle.buffers.proofs.Relieving.{Progress, progress_start, progress_chained, picked, progress_more, progress_fits, progress_stuck}
+use Rattle.buffers.proofs.Relieving.{Progress, progress_start, picked, progress_more, progress_fits, progress_stuck}
 use Rattle.buffers.proofs.Tables.relieve.Goals as goal
 
 pub loop-h-init : goal.loop-h-init
 loop-h-init c = (progress_start c.args.c.limit_is c.requires, refl, refl)
-
-pub heaviest-requires : goal.heaviest-requires
-heaviest-requires c = progress_chained c.loop-h.invariant.0
 
 pub returns-in_default-clause-eased : goal.returns-in_default-clause-eased
 returns-in_default-clause-eased c js x =
