@@ -57,8 +57,8 @@ fn taken_of(f: Field) -> Result<Option<Taken>, Refusal>
     requires { f.at + 14 < 2 ^ 64 }
     ensures { result ≡ taken_value f.at f.value }
 {
-    match f.value {
-        Value::Branch { parent, wire } => Ok(Some(Taken {
+    if let Value::Branch { parent, wire } = f.value {
+        return Ok(Some(Taken {
             node: Node {
                 parent,
                 wire,
@@ -67,13 +67,16 @@ fn taken_of(f: Field) -> Result<Option<Taken>, Refusal>
                 polarity: 0,
             },
             next: f.at + BRANCH_SIZE,
-        })),
-        Value::Sink {
-            parent,
-            wire,
-            pin,
-            polarity,
-        } => Ok(Some(Taken {
+        }));
+    }
+    if let Value::Sink {
+        parent,
+        wire,
+        pin,
+        polarity,
+    } = f.value
+    {
+        return Ok(Some(Taken {
             node: Node {
                 parent,
                 wire,
@@ -82,10 +85,12 @@ fn taken_of(f: Field) -> Result<Option<Taken>, Refusal>
                 polarity,
             },
             next: f.at + SINK_SIZE,
-        })),
-        Value::End => Ok(None),
-        _ => Err(Refusal::NotDue(f.at)),
+        }));
     }
+    let Value::End = f.value else {
+        return Err(Refusal::NotDue(f.at));
+    };
+    Ok(None)
 }
 
 // The node at a later place of a file, or none at the end.
