@@ -9,7 +9,7 @@ ghost use Rattle.load.specs.Asks.{offsets_at};
 ghost use Rattle.checker.specs.Verdict.{settled, weighed, verdict};
 
 pub use load::Weighed;
-use load::{Loads, Standing};
+use load::{Loads, Standing, Tables};
 use rules::{LentNet, LentPlacement, Refusal};
 
 // 11 for the entries.
@@ -42,7 +42,9 @@ fn settle(loads: &Loads) -> Result<Weighed, Refusal>
 fn weigh(on: &Standing) -> Result<Weighed, Refusal>
     ensures { result ≡ weighed (net_of on.now.net) on.now.placement.wires.now on.now.placement.offsets.now }
 {
-    let loads = Loads::of(on);
+    let mut tables = Tables::clear();
+    load::make_tables(on, &mut tables);
+    let loads = Loads::of(on, &tables);
     entries_within_limit(&loads)?;
     settle(&loads)
 }

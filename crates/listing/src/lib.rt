@@ -9,7 +9,7 @@ ghost use Rattle.load.specs.Asks.{offsets_at};
 ghost use Rattle.listing.specs.Listing.{ListedIs};
 
 pub use load::Weighed;
-use load::{Loads, Standing};
+use load::{Loads, Standing, Tables};
 use rules::{LentNet, LentPlacement, Refusal};
 
 // What each entry drives, in list order, into a column that has room.
@@ -28,7 +28,9 @@ fn list_loads(on: &Standing, out: &mut [u64]) -> u64
     ensures value { result ≡ source_drives (net_of on.now.net) (offsets_at on.now.placement) }
     ensures out_after { out.new ≡ sets out.old 0 (driven (net_of on.now.net) (offsets_at on.now.placement)) }
 {
-    let loads = Loads::of(on);
+    let mut tables = Tables::clear();
+    load::make_tables(on, &mut tables);
+    let loads = Loads::of(on, &tables);
     fill_drives(&loads, out);
     loads.source()
 }

@@ -33,7 +33,7 @@ pub struct Tables {
 
 impl Tables {
     // Before they are filled.
-    fn clear() -> Tables
+    pub fn clear() -> Tables
         ensures { ClearTables result }
     {
         Tables {
@@ -163,15 +163,14 @@ fn cut_parts(on: &Standing, own: &mut [u32; PLACES], shut: &mut [bool; PLACES])
     }
 }
 
-// The tables of a placement that stands.
-fn make_tables(on: &Standing) -> Tables
-    ensures { TablesOf (net_of on.now.net) (offsets_at on.now.placement) result }
+// The four tables of a placement that stands, all clear before. The caller lends them, so that no call copies them.
+pub fn make_tables(on: &Standing, tables: &mut Tables)
+    requires clear { ClearTables tables.old }
+    ensures { TablesOf (net_of on.now.net) (offsets_at on.now.placement) tables.new }
 {
-    let mut tables = Tables::clear();
     span_children(on.net.parent, &mut tables.gap, &mut tables.reach);
     bare_parts(on, &mut tables.own, &mut tables.shut);
     cut_parts(on, &mut tables.own, &mut tables.shut);
-    tables
 }
 
 // What lies below a branch point or the source: the sum of what the wires below it hand up.
@@ -216,22 +215,20 @@ fn stacked(wires: &[u16], k: usize) -> bool
 }
 
 // A placement that stands, and the tables that its loads are told from.
-#[derive(Drop)]
-pub struct Loads<'a> {
+#[derive(Clone, Copy)]
+pub struct Loads<'a, 't> {
     pub on: Standing<'a>,
-    tables: Tables,
-    ghost told: { TablesOf (net_of on.net) (offsets_at on.placement) tables } by { Prim.hlevel (props, Span-prop) },
+    pub tables: &'t Tables,
+    ghost told: { TablesOf (net_of on.net) (offsets_at on.placement) tables.now } by { Prim.hlevel (props, Span-prop) },
 }
 
-impl<'a> Loads<'a> {
-    // The loads of a placement.
-    pub fn of(on: &Standing<'a>) -> Loads<'a>
+impl<'a, 't> Loads<'a, 't> {
+    // The loads of a placement, by tables that were made of it.
+    pub fn of(on: &Standing<'a>, tables: &'t Tables) -> Loads<'a, 't>
+        requires told { TablesOf (net_of on.now.net) (offsets_at on.now.placement) tables.now }
         ensures { result.on ≡ on.now }
     {
-        Loads {
-            on: *on,
-            tables: make_tables(on),
-        }
+        Loads { on: *on, tables }
     }
 
     // What entry k drives: the lowest on its wire its offset and what lies below the node, each next its offset less the one before and C_b.
@@ -251,13 +248,13 @@ impl<'a> Loads<'a> {
             let sink = net.pin[i] as u64;
             return offset + sink;
         }
-        offset + load_below(net.parent, &self.tables, i)
+        offset + load_below(net.parent, self.tables, i)
     }
 
     // What the source drives.
     pub fn source(&self) -> u64
         ensures { result ≡ source_drives (net_of self.now.on.net) (offsets_at self.now.on.placement) }
     {
-        load_below(self.on.net.parent, &self.tables, 0)
+        load_below(self.on.net.parent, self.tables, 0)
     }
 }
