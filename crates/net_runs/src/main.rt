@@ -62,21 +62,18 @@ fn read_column<'a, R: Read, T: Copy, F: Fn(&mut R) -> T>(
     column
 }
 
-// A number of the input, and 0 in place of each byte past its end.
-fn read_bytes<const N: usize, R: Read>(reader: &mut R) -> [u8; N] {
-    let mut bytes = [0u8; N];
-    let _ = input::read(reader, &mut bytes);
-    bytes
-}
-
+// The next byte of the input, and 0 past its end. Each byte is asked for by itself: where an input ends and then goes on, as a terminal's
+// does, the end takes the place of one byte alone.
 fn read1<R: Read>(reader: &mut R) -> u8 {
-    u8::from_be_bytes(read_bytes(reader))
+    let mut byte = [0u8; 1];
+    let _ = input::read(reader, &mut byte);
+    byte[0]
 }
 
 fn read2<R: Read>(reader: &mut R) -> u16 {
-    u16::from_be_bytes(read_bytes(reader))
+    u16::from_be_bytes([read1(reader), read1(reader)])
 }
 
 fn read4<R: Read>(reader: &mut R) -> u32 {
-    u32::from_be_bytes(read_bytes(reader))
+    u32::from_be_bytes([read1(reader), read1(reader), read1(reader), read1(reader)])
 }

@@ -7,5 +7,5 @@ use Rattle.input.proofs.read.Goals as goal
 
 pub loop-count-preserved : goal.loop-count-preserved
 loop-count-preserved g c =
-    let after = front_after _ _ _ _ _ c.loop-count.invariant.1 c.in_ok-more.ensures.bound.0 in
+    let after = front_after _ _ _ _ _ c.loop-count.invariant.1 c.in_ok-more.ensures.within in
     (search rules, search rules, subst (Consumes _ _) after (Consumes-trans _ _ _ _ _ c.loop-count.invariant.2 c.in_ok-more.ensures.bytes.0))
