@@ -133,6 +133,8 @@ fn hand_over(
     Ok(())
 }
 
+// Each verb has its buffers in a frame of its own, so that none stands on another's.
+#[inline(never)]
 fn solve(rt: &HostRuntime, words: Words) -> Result<(), &'static str> {
     let mut net = [0u8; NET];
     let count = read(rt, words, Place::First, &mut net).map_err(|_| NO_NET)?;
@@ -143,6 +145,7 @@ fn solve(rt: &HostRuntime, words: Words) -> Result<(), &'static str> {
 }
 
 // A verb that takes a net file and a placement file.
+#[inline(never)]
 fn on_two(rt: &HostRuntime, verb: Verb, words: Words) -> Result<(), &'static str> {
     let mut net = [0u8; NET];
     let count = read(rt, words, Place::First, &mut net).map_err(|_| NO_NET)?;
@@ -154,6 +157,7 @@ fn on_two(rt: &HostRuntime, verb: Verb, words: Words) -> Result<(), &'static str
     hand_over(rt, &text, &file, reply, words.keep)
 }
 
+#[inline(never)]
 fn carry(rt: &HostRuntime, words: Words) -> Result<(), &'static str> {
     let mut old = [0u8; NET];
     let count = read(rt, words, Place::First, &mut old).map_err(|_| NO_FIRST_NET)?;
@@ -181,6 +185,7 @@ fn line(stopped: Stopped) -> &'static str {
     }
 }
 
+#[inline(never)]
 fn audit(rt: &HostRuntime, total: &[u8]) -> Result<(), &'static str> {
     let status = shelf::audit(
         rt,

@@ -6,7 +6,7 @@ ghost use Rattle.reply.specs.Said.{Conveys, Replies, most_text, most_file};
 ghost use Rattle.replies.specs.Replies.{of_fault, SaysOr, SaysFiles, CarriesFiles};
 
 use net_file::Columns;
-use placement_file::Entries;
+use placement_file::{ENTRIES, Entries};
 use reply::Reply;
 use rules::Refusal;
 
@@ -90,9 +90,12 @@ fn answer_carry(
     let read = net_reader::read(first, &mut columns).map_err(Fault::FirstNet)?;
     let mut columns2 = Columns::blank();
     let read2 = net_reader::read(second, &mut columns2).map_err(Fault::SecondNet)?;
-    let mut entries = Entries::blank();
-    let count = placement_reader::read(placement, &mut entries).map_err(Fault::Placement)?;
-    let Entries { wires, mut offsets } = entries;
+    // two arrays of its own, as the offsets alone are lent to be written: taken out of `Entries` they would be copied
+    let mut wires = [0u16; ENTRIES];
+    let mut offsets = [0u32; ENTRIES];
+    let count = placement_reader::read_placement(placement, &mut wires, &mut offsets).map_err(
+        Fault::Placement,
+    )?;
     Ok(carry_reply::carry(
         &columns.lent(read.limits, read.places),
         &columns2.lent(read2.limits, read2.places),

@@ -30,8 +30,8 @@ returns-in_err-count c =
     let n = net_held (λ k. omega (arith, c.type_inv.first k)) c.blank-columns.ensures c.read.ensures c.in_ok-read.read (passed fault.FirstNet c.read.result refl c.in_ok-read.ensures.cases) in
     let m = net_held (λ k. omega (arith, c.type_inv.second k)) c.blank-columns2.ensures c.read-2.ensures c.in_ok-read2.read2 (passed fault.SecondNet c.read-2.result refl c.in_ok-read2.ensures.cases) in
     let p = err_from_is_err_and c.from_residual-in_err-count.result c.from_residual-in_err-count.ensures.1 in
-    let q = passed_on fault.Placement c.read-3.result refl c.in_err-count.ensures.cases in
-    rw (p.1, p.2, q.2) (say.OfNet.read _ n.is (say.OfNet.read _ m.is (say.OfPlacement.unread q.0 (placement_refused c.args.placement.now c.read-3.ensures (omega arith) q.1) refl)))
+    let q = passed_on fault.Placement c.read_placement.result refl c.in_err-count.ensures.cases in
+    rw (p.1, p.2, q.2) (say.OfNet.read _ n.is (say.OfNet.read _ m.is (say.OfPlacement.unread q.0 (placement_refused c.args.placement.now c.read_placement.ensures (omega arith) q.1) refl)))
 
 pub lent-requires : goal.lent-requires
 lent-requires c = (net_held (λ k. omega (arith, c.type_inv.first k)) c.blank-columns.ensures c.read.ensures c.in_ok-read.read (passed fault.FirstNet c.read.result refl c.in_ok-read.ensures.cases)).few
@@ -40,16 +40,16 @@ pub lent-requires-2 : goal.lent-requires-2
 lent-requires-2 c = (net_held (λ k. omega (arith, c.type_inv.second k)) c.blank-columns2.ensures c.read-2.ensures c.in_ok-read2.read2 (passed fault.SecondNet c.read-2.result refl c.in_ok-read2.ensures.cases)).few
 
 pub slice_bounds-wires-end : goal.slice_bounds-wires-end
-slice_bounds-wires-end c = (placement_read c.args.placement.now c.read-3.ensures (passed fault.Placement c.read-3.result refl c.in_ok-count.ensures.cases)).in_wires
+slice_bounds-wires-end c = (placement_read c.args.placement.now c.read_placement.ensures (passed fault.Placement c.read_placement.result refl c.in_ok-count.ensures.cases)).in_wires
 
 pub slice_bounds-carry-end : goal.slice_bounds-carry-end
-slice_bounds-carry-end c = sym (length-take-le _ _ (placement_read c.args.placement.now c.read-3.ensures (passed fault.Placement c.read-3.result refl c.in_ok-count.ensures.cases)).in_wires)
+slice_bounds-carry-end c = sym (length-take-le _ _ (placement_read c.args.placement.now c.read_placement.ensures (passed fault.Placement c.read_placement.result refl c.in_ok-count.ensures.cases)).in_wires)
 
 pub slice_bounds-offsets-end : goal.slice_bounds-offsets-end
-slice_bounds-offsets-end c = (placement_read c.args.placement.now c.read-3.ensures (passed fault.Placement c.read-3.result refl c.in_ok-count.ensures.cases)).in_offsets
+slice_bounds-offsets-end c = (placement_read c.args.placement.now c.read_placement.ensures (passed fault.Placement c.read_placement.result refl c.in_ok-count.ensures.cases)).in_offsets
 
 pub slice_bounds-carry-end-2 : goal.slice_bounds-carry-end-2
-slice_bounds-carry-end-2 c = sym (length-take-le _ _ (placement_read c.args.placement.now c.read-3.ensures (passed fault.Placement c.read-3.result refl c.in_ok-count.ensures.cases)).in_offsets)
+slice_bounds-carry-end-2 c = sym (length-take-le _ _ (placement_read c.args.placement.now c.read_placement.ensures (passed fault.Placement c.read_placement.result refl c.in_ok-count.ensures.cases)).in_offsets)
 
 pub carry-requires-clause-first_sound : goal.carry-requires-clause-first_sound
 carry-requires-clause-first_sound c =
@@ -65,9 +65,9 @@ pub returns : goal.returns
 returns c =
     let n = net_held (λ k. omega (arith, c.type_inv.first k)) c.blank-columns.ensures c.read.ensures c.in_ok-read.read (passed fault.FirstNet c.read.result refl c.in_ok-read.ensures.cases) in
     let m = net_held (λ k. omega (arith, c.type_inv.second k)) c.blank-columns2.ensures c.read-2.ensures c.in_ok-read2.read2 (passed fault.SecondNet c.read-2.result refl c.in_ok-read2.ensures.cases) in
-    let e = placement_read c.args.placement.now c.read-3.ensures (passed fault.Placement c.read-3.result refl c.in_ok-count.ensures.cases) in
+    let e = placement_read c.args.placement.now c.read_placement.ensures (passed fault.Placement c.read_placement.result refl c.in_ok-count.ensures.cases) in
     record {
-      said = carry_said (net_of c.lent.result) (net_of c.lent-2.result) (take c.in_ok-count.count c.read-3.new.entries.wires) (take c.in_ok-count.count c.read-3.new.entries.offsets);
+      said = carry_said (net_of c.lent.result) (net_of c.lent-2.result) (take c.in_ok-count.count c.read_placement.new.wires) (take c.in_ok-count.count c.read_placement.new.offsets);
       right = say.OfNet.read (net_of c.lent.result) (rw c.lent.ensures n.is) (say.OfNet.read (net_of c.lent-2.result) (rw c.lent-2.ensures m.is) (say.OfPlacement.read e.es e.is (rw (e.wires, e.offsets) refl)));
       replies = c.carry.ensures;
     }
