@@ -33,7 +33,9 @@ fn print_refused(rt: &impl Print, refused: Refused) -> io::Result<()> {
     rt.write_all(line.as_bytes())
 }
 
-fn print_added(rt: &impl Print, added: &LentPlacement) -> io::Result<()> {
+fn print_added(rt: &impl Print, added: &LentPlacement) -> io::Result<()>
+    requires { length added.now.offsets.now ≡ length added.now.wires.now }
+{
     let count = added.wires.len();
     println!(rt; "added {count}")?;
     for (wire, offset) in added.wires.iter().zip(added.offsets) {
@@ -62,7 +64,13 @@ fn finish_pair(net: &[u8], placement: &[u8], added: &mut Entries) -> Result<usiz
 fn print_pair(rt: &impl Print, net: &[u8], placement: &[u8]) -> io::Result<()> {
     let mut added = Entries::blank();
     match finish_pair(net, placement, &mut added) {
-        Ok(count) => print_added(rt, &added.lent(count)),
+        Ok(count) => {
+            let added = LentPlacement {
+                wires: &added.wires[..count],
+                offsets: &added.offsets[..count],
+            };
+            print_added(rt, &added)
+        }
         Err(refused) => print_refused(rt, refused),
     }
 }

@@ -56,6 +56,16 @@ module _ (τ : Cell) where
   close_at_not (suc n) m e g o =
       ifz_no (g e - τ.cu) _ _ (omega (arith, o e (omega arith) (omega arith))) ∙ close_at_not n m (suc e) g (λ k l h. o k (omega arith) (omega arith))
 
+  -- where the first load fits the surplus is 0, and no row is needed
+  pub near_fits : (last c x y : ℕ) (z : Acc) → PairOf c x y z → (c ≡ 0 → ⊥) → x ≤ τ.cu → NearOf τ last z x (min x y) 1
+  near_fits last c x y fail q ne h = absurd (ne q)
+  near_fits last c x y (all m g) q ne h =
+      (omega arith, record { over = λ k l. absurd (omega arith); fits = omega (arith, q.1) }, q.1, rw (q.1, q.2))
+
+  pub near_dead : (last c x y h h₁ : ℕ) (z : Acc) → PairOf c x y z → c ≡ 0 → NearOf τ last z h h₁ 0
+  near_dead last c x y h h₁ fail q e = refl
+  near_dead last c x y h h₁ (all m g) q e = absurd (omega (arith, q.0))
+
   -- what is kept of the node is its state
   pub near_state_lem : (last c x y h h₁ o : ℕ) (z : Acc) → PairOf c x y z → NearOf τ last z h h₁ o → close τ last z ≡ near_state c h h₁ o
   unfolding close
