@@ -1,7 +1,7 @@
 // The names of a shelf's net files: as they come in, a 0 byte after each; as they are printed; and the files that they name.
 #![tactic(auto)]
 
-ghost use Rattle.std.specs.Prelude.{◌+◌, ◌*◌, ◌≤◌, length, ◌≡◌};
+ghost use Rattle.std.specs.Prelude.{Ok, ◌+◌, ◌*◌, ◌≤◌, length, ◌≡◌};
 ghost use Rattle.names.specs.Names.{size_of, bytes_of};
 
 use std::fs::OpenOptions;
@@ -66,9 +66,7 @@ impl NameReader {
             match self.next_byte(reader)? {
                 Some(0) => return Ok(Some(n)),
                 Some(byte) => name[n] = byte,
-                // After the last 0 there is nothing, or a name that lacks its own.
-                None if n == 0 => return Ok(None),
-                None => return Ok(Some(n)),
+                None => return Ok(ended(n)),
             }
         }
         Err(NoName::TooLong)
@@ -86,6 +84,13 @@ impl NameReader {
         self.start += 1;
         Ok(Some(byte))
     }
+}
+
+// After the last 0 there is nothing, or a name that lacks its own.
+fn ended(n: usize) -> Option<usize>
+    ensures { size_of (Ok result) ≤ n }
+{
+    if n == 0 { None } else { Some(n) }
 }
 
 // A plain byte stands for itself. Of all others, and of the backslash, the number is written in three octal digits, so that a line is a line.
